@@ -1,0 +1,26 @@
+-- "A refusal carries its number from document 01": the table "Numbers a caller may get", a line for each case.
+use Prim.Native.Nat.{ℕ}
+use Rattle.refusal.specs.declared.Reason.{Reason}
+use Rattle.refusal.specs.declared.Reason.the-variants.{InvalidState, XfMemoryLength, VertexBufferShort, ReadDisabled, LinkedMode, UnknownOpcode, UnknownCpAddress, XfLoadPastEnd, PositionAbsent, UnknownFormat, FeedTooLong, PatchLength, PatchOfMaskRegister, PatchMaskTooWide, PatchNumberOutsideMask, OutputShort, UnknownOffset, UnwritableCommand, NotOfLayout}
+
+-- the number of a refusal
+abbrev pub number : Reason → ℕ
+number InvalidState = 1
+number XfMemoryLength = 2
+number VertexBufferShort = 3
+number ReadDisabled = 4
+number LinkedMode = 5
+number UnknownOpcode = 6
+number UnknownCpAddress = 7
+number XfLoadPastEnd = 8
+number PositionAbsent = 9
+number UnknownFormat = 10
+number FeedTooLong = 11
+number PatchLength = 12
+number PatchOfMaskRegister = 13
+number PatchMaskTooWide = 14
+number PatchNumberOutsideMask = 15
+number OutputShort = 16
+number UnknownOffset = 17
+number UnwritableCommand = 18
+number NotOfLayout = 19
