@@ -1,0 +1,38 @@
+-- Taking a test apart.
+use Prim.Native.Nat.{ℕ, _<_, _≤_}
+use mathlib.Core.Path.{_≡_, refl}
+use mathlib.Core.Logic.{_⊎_, inl, inr}
+use mathlib.Core.Bool.{Bool, true, false, _&&_, _||_, false≢true, cond}
+use lib.Dec.{ltb}
+use borrow.Author.Tests.{ltb-true, ltb-false}
+
+-- what holds of both arms of a `cond`, each under its test, holds of the `cond`
+pub cond-both : {A : Type 0} (P : A → Type 0) (t : Bool) {x y : A} → (t ≡ true → P x) → (t ≡ false → P y) → P (cond t x y)
+cond-both P true f g = f refl
+cond-both P false f g = g refl
+
+-- a function of a `cond` is a `cond` of the function
+pub cond-map : {A B : Type 0} (f : A → B) (t : Bool) (x y : A) → f (cond t x y) ≡ cond t (f x) (f y)
+cond-map f true x y = refl
+cond-map f false x y = refl
+
+-- every test holds or not
+pub tested : (t : Bool) → (t ≡ true) ⊎ (t ≡ false)
+tested true = inl refl
+tested false = inr refl
+
+order-by : (a b : ℕ) (t : Bool) → ltb a b ≡ t → (a < b) ⊎ (b ≤ a)
+order-by a b true e = inl (ltb-true a b e)
+order-by a b false e = inr (ltb-false a b e)
+
+-- of two numbers one is below the other, or not
+pub order : (a b : ℕ) → (a < b) ⊎ (b ≤ a)
+order a b = order-by a b (ltb a b) refl
+
+pub and-left : (a b : Bool) → (a && b) ≡ true → a ≡ true
+and-left true b e = refl
+and-left false b e = e
+
+pub and-right : (a b : Bool) → (a && b) ≡ true → b ≡ true
+and-right true b e = e
+and-right false b e = absurd (false≢true e)

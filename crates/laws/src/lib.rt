@@ -1,0 +1,1 @@
+// No code: general facts on tests, remainders, tables and lists that no layer owns. They stand in proofs/.

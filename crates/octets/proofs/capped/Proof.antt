@@ -1,0 +1,14 @@
+-- `octets::capped` meets its contract: both sides make the same test.
+use borrow.Author.Tests.{lt-ltb, le-ltb}
+use borrow.Author.Needs.{needs}
+use Rattle.octets.proofs.capped.Statement.{statement}
+use Rattle.octets.proofs.capped.Tie as tie
+
+returns : tie.Need-returns
+returns c = (rw (lt-ltb _ _ (c .if1 .taken)), search needs)
+
+returns-2 : tie.Need-returns-2
+returns-2 c = (rw (le-ltb _ _ (c .if1 .left)), search needs)
+
+pub capped-spec : {M : Type 1} → statement M
+capped-spec = tie.close (tie.spec returns returns-2)

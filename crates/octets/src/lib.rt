@@ -1,0 +1,33 @@
+// "All multi-byte numbers in the stream are big-endian": numbers as they stand in bytes.
+ghost use mathlib.Core.Path.{_≡_};
+ghost use Prim.Native.Nat.{_≤_};
+ghost use lib.ListN.{getD};
+ghost use Rattle.octets.specs.BigEndian.{bigEndian, least};
+
+// The byte at a place, 0 past the end.
+pub fn byte(bytes: &[u8], at: usize) -> u8
+    ensures { λ r. ⌜ r ≡ getD (now (bytes .entry)) at 0 ⌝ }
+{
+    if at < bytes.len() { bytes[at] } else { 0 }
+}
+
+// At most four.
+fn capped(n: u32) -> u32
+    ensures { λ r. ⌜ (r ≡ least n) × (r ≤ 4) ⌝ }
+{
+    if n < 4 { n } else { 4 }
+}
+
+// The number of the n bytes from place `at` on; a place past the end reads 0, and more than four bytes count as four.
+pub fn read(bytes: &[u8], at: u32, n: u32) -> u32
+    ensures { λ r. ⌜ r ≡ bigEndian (now (bytes .entry)) at (least n) ⌝ }
+{
+    let wide = capped(n);
+    let mut number: u32 = 0;
+    let mut i: u32 = 0;
+    while i < wide {
+        number = number * 256 + byte(bytes, at as usize + i as usize) as u32;
+        i += 1;
+    }
+    number
+}
