@@ -36,3 +36,8 @@ cpPlace a =
 -- "20 accepted without effect. Others: 7."
 unfoldable pub cpAccepted : ℕ → Bool
 cpAccepted a = eqb a 0x20 || ltb (cpPlace a) cpCount
+
+-- "Arrays by attribute: 0 position, 1 normal, 2 and 3 colours, 4 to 11 textures, 12 to 15 the indexed loads": attributes 9 to 20 of a
+-- vertex in their order (`indexedArray` names those of the indexed loads)
+abbrev pub attributeArray : ℕ → ℕ
+attributeArray attribute = attribute - 9
