@@ -1,5 +1,5 @@
 -- "Units of the stream": what a list of bytes, of which n are there, begins with.
-use mathlib.Core.Bool.{cond, _&&_, _||_}
+use mathlib.Core.Bool.{Bool, cond, _&&_, _||_}
 use mathlib.Core.List.{List}
 use Prim.Native.Nat.{ℕ, zero, suc, _+_, _-_, _*_, _/_, _%_, _^_}
 use lib.Dec.{leb, ltb, eqb}
@@ -86,6 +86,13 @@ lookHead op b n cp =
 unfoldable pub lookVertex : ℕ → List ℕ → ℕ → Found
 lookVertex n cp format = unlessRefused (refusalOf (descriptorOf cp format)) (whole n (lengthOf (descriptorOf cp format)) vertex 0)
 
+-- the opcodes of the indexed loads, and of the draws
+abbrev pub isIndexed : ℕ → Bool
+isIndexed op = ((eqb op 0x20 || eqb op 0x28) || eqb op 0x30) || eqb op 0x38
+
+abbrev pub isDraw : ℕ → Bool
+isDraw op = leb 0x80 op && ltb op 0xC0
+
 -- the table of opcodes
 unfoldable pub byOpcode : ℕ → List ℕ → ℕ → List ℕ → Found
 byOpcode op b n cp =
@@ -94,10 +101,10 @@ byOpcode op b n cp =
     (cond (eqb op 0x68) (whole n 1 metrics 0)
     (cond (eqb op 0x08) (lookCp b n)
     (cond (eqb op 0x10) (lookXf b n)
-    (cond (((eqb op 0x20 || eqb op 0x28) || eqb op 0x30) || eqb op 0x38) (lookIndexed op b n cp)
+    (cond (isIndexed op) (lookIndexed op b n cp)
     (cond (eqb op 0x40) (lookCall b n)
     (cond (eqb op 0x61) (lookBp b n)
-    (cond (leb 0x80 op && ltb op 0xC0) (lookHead op b n cp)
+    (cond (isDraw op) (lookHead op b n cp)
     (refused 6)))))))))
 
 -- what n bytes begin with: in an open draw a vertex, else a command; no byte lacks one

@@ -61,3 +61,9 @@ three-bytes l at = rw (add-zero at) (omega arith)
 pub four-bytes : (l : List ℕ) (at : ℕ) → bigEndian l at 4 ≡ ((getD l at 0 * 256 + getD l (at + 1) 0) * 256 + getD l (at + 2) 0) * 256 + getD l (at + 3) 0
 unfolding bigEndian
 four-bytes l at = rw (add-zero at) (omega arith)
+
+-- a number reads only its own bytes
+pub agree : (a b : List ℕ) (at n : ℕ) → ((k : ℕ) → k < at + n → getD a k 0 ≡ getD b k 0) → bigEndian a at n ≡ bigEndian b at n
+unfolding bigEndian
+agree a b at zero same = refl
+agree a b at (suc n) same = rw (agree a b at n (λ k h. same k (omega arith)), same (at + n) (omega arith))
