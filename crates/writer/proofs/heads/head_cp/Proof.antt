@@ -1,0 +1,33 @@
+-- `writer::heads::head_cp` meets its contract: its bytes are the definition's, byte by byte.
+use borrow.Author.Needs.{needs}
+use lib.Dec.{lit≤}
+use mathlib.Core.Path.{refl}
+use Rattle.writer.specs.Write.{headOf}
+use Rattle.octets.specs.BigEndian.{bytesOf}
+use Rattle.writer.proofs.heads.head_cp.Statement.{statement}
+use Rattle.writer.proofs.heads.head_cp.Tie as tie
+
+low-requires : tie.Need-low-requires
+low-requires c κs = search needs
+
+low-requires-2 : tie.Need-low-requires-2
+low-requires-2 c κs = search needs
+
+low-requires-3 : tie.Need-low-requires-3
+low-requires-3 c κs = search needs
+
+low-requires-4 : tie.Need-low-requires-4
+low-requires-4 c κs = search needs
+
+returns : tie.Need-returns
+unfolding headOf bytesOf
+returns c =
+    record {
+      bytes-are = rw (c .before .before .before .low .ensures, c .before .before .low2 .ensures, c .before .low3 .ensures, c .low4 .ensures);
+      length-is = refl;
+      most = lit≤ tt;
+    }
+
+pub head-cp-spec : {M : Type 1} → statement M
+head-cp-spec =
+    tie.close (tie.spec low-requires low-requires-2 low-requires-3 low-requires-4 returns)

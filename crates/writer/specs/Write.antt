@@ -1,0 +1,98 @@
+-- "The writer takes any single command but a vertex, its fields in the widths above, an XF load's words lent beside it."
+-- A command is its list of numbers, kind and fields.
+use mathlib.Core.Path.{_≡_}
+use mathlib.Core.Bool.{Bool, true, cond, not, _&&_, _||_}
+use mathlib.Core.List.{List, [], _∷_, _++_}
+use Prim.Native.Nat.{ℕ, _+_, _*_, _%_, _^_}
+use lib.Dec.{leb, ltb, eqb}
+use lib.ListN.{length, take, drop}
+use Rattle.octets.specs.BigEndian.{bytesOf}
+use Rattle.refusal.specs.Number.{number}
+use Rattle.command.specs.Command.{kindOf, fieldOf}
+use Rattle.command.specs.Places.{cpAccepted}
+use Rattle.command.specs.Look.{xfCount}
+use Rattle.writer.specs.declared.Written.{Written}
+use Rattle.writer.specs.declared.Written.the-variants.{Bytes, Refused}
+
+-- ---- the bytes of a command
+
+-- the length of an XF or indexed load, its words less one, in four bits
+abbrev pub lengthField : ℕ → ℕ
+lengthField words = (words + 15) % 16
+
+-- what stands before the words of an XF load, and the whole of every other command; a vertex has none
+unfoldable pub headOf : List ℕ → List ℕ
+headOf c =
+    cond (eqb (kindOf c) 0x08) (0x08 ∷ fieldOf c 1 ∷ bytesOf 4 (fieldOf c 2))
+    (cond (eqb (kindOf c) 0x10) (0x10 ∷ (bytesOf 2 (lengthField (fieldOf c 1)) ++ bytesOf 2 (fieldOf c 2)))
+    (cond (eqb (kindOf c) 0x20)
+    ((0x20 + 8 * (fieldOf c 1 % 4)) ∷ (bytesOf 2 (fieldOf c 2) ++ bytesOf 2 (lengthField (fieldOf c 3) * 4096 + fieldOf c 4 % 4096)))
+    (cond (eqb (kindOf c) 0x40) (0x40 ∷ (bytesOf 4 (fieldOf c 1) ++ bytesOf 4 (fieldOf c 2)))
+    (cond (eqb (kindOf c) 0x61) (0x61 ∷ fieldOf c 1 ∷ bytesOf 3 (fieldOf c 2))
+    (cond (eqb (kindOf c) 0x80) ((0x80 + 8 * (fieldOf c 1 % 8) + fieldOf c 2 % 8) ∷ bytesOf 2 (fieldOf c 3))
+    (cond (eqb (kindOf c) 0x01) []
+    (kindOf c ∷ [])))))))
+
+-- the words that an XF load names; other commands name none
+unfoldable pub wordsOf : List ℕ → ℕ
+wordsOf c = cond (eqb (kindOf c) 0x10) (fieldOf c 1) 0
+
+-- words as they stand in the stream
+unfoldable pub wordBytes : List ℕ → List ℕ
+wordBytes [] = []
+wordBytes (w ∷ ws) = bytesOf 4 w ++ wordBytes ws
+
+-- "Its bytes are those written for it": of a command with its lent words
+unfoldable pub commandBytes : List ℕ → List ℕ → List ℕ
+commandBytes c words = headOf c ++ wordBytes (take (wordsOf c) words)
+
+-- ---- the refusals: 18, "then tests 7 and 8, then 16"
+
+-- "command to write is a vertex or has a field out of range", or the lent words are not as many as an XF load names, 1 to 16
+unfoldable pub unwritable : List ℕ → ℕ → Bool
+unwritable c lent =
+    cond (eqb (kindOf c) 0x01) true
+    (cond (eqb (kindOf c) 0x10) (not (leb 1 (fieldOf c 1) && (leb (fieldOf c 1) 16 && eqb (fieldOf c 1) lent)))
+    (cond (eqb (kindOf c) 0x20)
+    (not ((leb 12 (fieldOf c 1) && leb (fieldOf c 1) 15) && ((leb 1 (fieldOf c 3) && leb (fieldOf c 3) 16) && ltb (fieldOf c 4) 4096)))
+    (cond (eqb (kindOf c) 0x61) (leb (2 ^ 24) (fieldOf c 2))
+    (eqb (kindOf c) 0x80 && (leb 8 (fieldOf c 1) || leb 8 (fieldOf c 2))))))
+
+-- "CP address not above"
+unfoldable pub unaddressed : List ℕ → Bool
+unaddressed c = eqb (kindOf c) 0x08 && not (cpAccepted (fieldOf c 1))
+
+-- "XF load past 4,184"
+unfoldable pub pastEnd : List ℕ → Bool
+pastEnd c = eqb (kindOf c) 0x10 && ltb xfCount (fieldOf c 2 + fieldOf c 1)
+
+-- the first refusal that applies, 0 where none does, of a command, its lent words and an output of so many bytes
+unfoldable pub refusalOf : List ℕ → List ℕ → ℕ → ℕ
+refusalOf c words room =
+    cond (unwritable c (length words)) 18
+    (cond (unaddressed c) 7
+    (cond (pastEnd c) 8
+    (cond (ltb room (length (commandBytes c words))) 16 0)))
+
+-- ---- the promise
+
+-- bytes at the front of the output; "bytes past what is written stay"
+abbrev pub placed : List ℕ → List ℕ → List ℕ
+placed bytes out = bytes ++ drop (length bytes) out
+
+-- a head of `at` bytes copied to the front, then the first n words after it
+abbrev pub headThenWords : List ℕ → ℕ → List ℕ → ℕ → List ℕ → List ℕ
+headThenWords head at words n out =
+    take at (head ++ drop at out) ++ (wordBytes (take n words) ++ drop (at + 4 * n) (head ++ drop at out))
+
+-- the numbers of an answer: 0 and the bytes written, or the refusal's
+abbrev pub meaning : Written → List ℕ
+meaning (Bytes n) = 0 ∷ n ∷ []
+meaning (Refused r) = number r ∷ []
+
+-- what is written, or a refusal that writes nothing
+pub record Writes (c words out : List ℕ) (r : Written) (out' : List ℕ) : Type 0 where
+  pub answer-is :
+      meaning r
+      ≡ cond (eqb (refusalOf c words (length out)) 0) (0 ∷ length (commandBytes c words) ∷ []) (refusalOf c words (length out) ∷ [])
+  pub out-is : out' ≡ cond (eqb (refusalOf c words (length out)) 0) (placed (commandBytes c words) out) out
