@@ -1,3 +1,5 @@
 pub mod Others
 pub mod Words
 pub mod Outcomes
+pub mod RoundTrip
+pub mod Back

@@ -8,7 +8,7 @@ use lib.Dec.{leb, ltb, eqb}
 use lib.ListN.{length, take, drop, length-append}
 use lib.Seq.{take-at, drop-append-add, drop-drop, length-take-le}
 use borrow.Author.Tests.{ne-eqb, eqb-true, lt-ltb, le-ltb}
-use Rattle.laws.proofs.Cases.{and-left, and-right}
+use Rattle.laws.proofs.Cases.{and-right, not-false}
 use Rattle.refusal.specs.Number.{number}
 use Rattle.refusal.specs.declared.Reason.{Reason}
 use Rattle.refusal.specs.declared.Reason.the-variants.{UnwritableCommand, UnknownCpAddress, XfLoadPastEnd, OutputShort}
@@ -17,10 +17,6 @@ use Rattle.command.specs.Command.{kindOf, fieldOf}
 use Rattle.writer.specs.declared.Written.the-variants.{Bytes, Refused}
 use Rattle.writer.specs.Write.{headOf, wordsOf, wordBytes, commandBytes, unwritable, unaddressed, pastEnd, refusalOf, placed, headThenWords, Writes}
 use Rattle.writer.proofs.Words.{length-words}
-
-not-false : (b : Bool) → not b ≡ false → b ≡ true
-not-false true e = refl
-not-false false e = sym e
 
 -- a writable command is lent the words that it names
 words-by : (k f lent : ℕ) (t : Bool) → eqb k 0x10 ≡ t → (b : Bool)
