@@ -1,5 +1,5 @@
 -- How an answer changes when more bytes come: a settled one stays, and a waiting one waits for as many as it says.
-use mathlib.Core.Path.{_≡_, refl, sym, ap, _∙_}
+use mathlib.Core.Path.{_≡_, refl, sym, ap, _∙_, subst}
 use mathlib.Core.Bool.{Bool, true, false, cond}
 use mathlib.Core.Logic.{_⊎_, inl, inr, ⊎-elim}
 use mathlib.Core.List.{List}
@@ -17,6 +17,7 @@ use Rattle.command.specs.declared.Draw.the-variants.{Closed, Open}
 use Rattle.command.specs.Command.{Found, unit, waiting, refused, loadCp}
 use Rattle.command.specs.Places.{cpAccepted}
 use Rattle.command.specs.Look.{whole, lookCp, xfCount, xfWords, xfAddress, lookXf, lookIndexed, lookCall, lookBp, descriptorOf, unlessRefused, lookHead, lookVertex, isIndexed, isDraw, byOpcode, lookOf}
+use Rattle.command.proofs.Bounds.{Fair, look-fair}
 
 -- neither a unit nor a refusal; not a unit; not waiting
 abbrev pub Waits : Found → Type 0
@@ -28,12 +29,17 @@ NoUnit x = (c : List ℕ) (m l : ℕ) → x ≡ unit c m l → ⊥
 abbrev pub Settled : Found → Type 0
 Settled x = (k : ℕ) → x ≡ waiting k → ⊥
 
+-- a unit of more than n bytes, where it is one
+abbrev pub Longer : ℕ → Found → Type 0
+Longer n x = (c : List ℕ) (m l : ℕ) → x ≡ unit c m l → n < l
+
 -- x is the answer at n bytes and y at n' of the same: `keeps`, an answer other than waiting stays; `fewer`, with fewer bytes more than are
--- lacking there is no unit; `just`, with just those there is a unit or a refusal, unless E
+-- lacking there is no unit; `just`, with just those there is a unit or a refusal, unless E; `alone`, a unit is one without what comes after it
 pub record Extends (E : Type 0) (n n' : ℕ) (x y : Found) : Type 0 where
   pub keeps : Settled x → x ≡ y
   pub fewer : (k : ℕ) → x ≡ waiting k → n' < n + k → NoUnit y
   pub just : (k : ℕ) → x ≡ waiting k → n' ≡ n + k → (E → ⊥) → Settled y
+  pub alone : (c : List ℕ) (m l : ℕ) → y ≡ unit c m l → l ≤ n → x ≡ y
 
 no : {A : Type 0} → _≡_ {A = ℕ} 0 1 → A
 no e = absurd (omega (arith, e))
@@ -50,20 +56,32 @@ waiting-no-unit k c m l e = let z : _≡_ {A = ℕ} 0 1 = cc in omega arith
 refused-no-unit : (r : ℕ) → NoUnit (refused r)
 refused-no-unit r c m l e = let z : _≡_ {A = ℕ} 0 1 = cc in omega arith
 
+no-unit-longer : (n : ℕ) {x : Found} → NoUnit x → Longer n x
+no-unit-longer n h c m l e = absurd (h c m l e)
+
+unit-longer : (n length : ℕ) (c : List ℕ) (m : ℕ) → n < length → Longer n (unit c m length)
+unit-longer n length c m h d k l e = let s : length ≡ l = cc in omega arith
+
+whole-longer : (n n' length : ℕ) (c : List ℕ) (m : ℕ) → n < length → Longer n (whole n' length c m)
+unfolding whole
+whole-longer n n' length c m h =
+    cond-both (Longer n) (ltb n' length) (λ _. no-unit-longer n (waiting-no-unit (length - n'))) (λ _. unit-longer n length c m h)
+
 module _ (E : Type 0) (n n' : ℕ) (more : n ≤ n') where
   ext-settled : {x y : Found} → Settled x → x ≡ y → Extends E n n' x y
-  ext-settled s e = record { keeps = λ _. e; fewer = λ k h. absurd (s k h); just = λ k h. absurd (s k h) }
+  ext-settled s e = record { keeps = λ _. e; fewer = λ k h. absurd (s k h); just = λ k h. absurd (s k h); alone = λ _ _ _ _ _. e }
 
   ext-refused : (r : ℕ) → Extends E n n' (refused r) (refused r)
   ext-refused r = ext-settled (refused-settled r) refl
 
   -- an answer that waits for k bytes
-  ext-waiting : (k : ℕ) {y : Found} → (n' < n + k → NoUnit y) → (n' ≡ n + k → (E → ⊥) → Settled y) → Extends E n n' (waiting k) y
-  ext-waiting k {y} f j =
+  ext-waiting : (k : ℕ) {y : Found} → (n' < n + k → NoUnit y) → (n' ≡ n + k → (E → ⊥) → Settled y) → Longer n y → Extends E n n' (waiting k) y
+  ext-waiting k {y} f j long =
       record {
         keeps = λ s. absurd (s k refl);
         fewer = λ i e h. f (rw (← same i e) at h);
         just = λ i e h. j (rw (← same i e) at h);
+        alone = λ c m l e h. let g : n < l = long c m l e in absurd (omega (arith, g, h));
       }
     where
       same : (i : ℕ) → waiting k ≡ waiting i → k ≡ i
@@ -87,7 +105,8 @@ module _ (E : Type 0) (n n' : ℕ) (more : n ≤ n') where
       rw (lt-ltb n length h)
       (ext-waiting (length - n)
       (λ g. let i : n' < length = omega arith in rw (lt-ltb n' length i) (waiting-no-unit (length - n')))
-      (λ g _. let i : length ≤ n' = omega arith in rw (le-ltb n' length i) (unit-settled c' m' length))))
+      (λ g _. let i : length ≤ n' = omega arith in rw (le-ltb n' length i) (unit-settled c' m' length))
+      (whole-longer n n' length c' m' h)))
       (λ h.
       let i : length ≤ n' = omega arith in
       rw (le-ltb n length h, le-ltb n' length i) (ext-settled (unit-settled c m length) (rw (f h .0, f h .1))))
@@ -105,6 +124,19 @@ cp-below p n h =
 cp-at : (p : List ℕ) (n : ℕ) → n ≡ 6 → Settled (lookCp p n)
 unfolding lookCp whole
 cp-at p n e = rw e (cond-both Settled (cpAccepted (getD p 1 0)) (λ _. unit-settled _ _ _) (λ _. refused-settled 7))
+
+cp-longer : (p : List ℕ) (n n' : ℕ) → n < 2 → Longer n (lookCp p n')
+unfolding lookCp
+cp-longer p n n' h =
+    cond-both (Longer n) (ltb n' 2) (λ _. no-unit-longer n (waiting-no-unit (6 - n')))
+    (λ _. cond-both (Longer n) (cpAccepted (getD p 1 0)) (λ _. whole-longer n n' 6 _ 0 (omega arith)) (λ _. no-unit-longer n (refused-no-unit 7)))
+
+xf-longer : (p : List ℕ) (n n' : ℕ) → n < 5 → Longer n (lookXf p n')
+unfolding lookXf
+xf-longer p n n' h =
+    cond-both (Longer n) (ltb n' 5) (λ _. no-unit-longer n (waiting-no-unit (5 - n')))
+    (λ _. cond-both (Longer n) (ltb xfCount (xfAddress p + xfWords p)) (λ _. no-unit-longer n (refused-no-unit 8))
+    (λ _. whole-longer n n' (5 + 4 * xfWords p) _ 0 (omega arith)))
 
 xf-below : (p : List ℕ) (n : ℕ) → n < 5 → NoUnit (lookXf p n)
 unfolding lookXf
@@ -131,7 +163,7 @@ module _ (E : Type 0) (p p' : List ℕ) (n n' : ℕ) (more : n ≤ n') (same : (
   ext-cp : Extends E n n' (lookCp p n) (lookCp p' n')
   ext-cp =
       ⊎-elim
-      (λ h. rw (cp-first h) (ext-waiting E n n' more (6 - n) (λ g. cp-below p' n' (omega arith)) (λ g _. cp-at p' n' (omega arith))))
+      (λ h. rw (cp-first h) (ext-waiting E n n' more (6 - n) (λ g. cp-below p' n' (omega arith)) (λ g _. cp-at p' n' (omega arith)) (cp-longer p' n n' h)))
       cp-later
       (order n 2)
 
@@ -152,7 +184,7 @@ module _ (E : Type 0) (p p' : List ℕ) (n n' : ℕ) (more : n ≤ n') (same : (
   ext-xf : (n < 5 → E) → Extends E n n' (lookXf p n) (lookXf p' n')
   ext-xf exempt =
       ⊎-elim
-      (λ h. rw (xf-first h) (ext-waiting E n n' more (5 - n) (λ g. xf-below p' n' (omega arith)) (λ g u. absurd (u (exempt h)))))
+      (λ h. rw (xf-first h) (ext-waiting E n n' more (5 - n) (λ g. xf-below p' n' (omega arith)) (λ g u. absurd (u (exempt h))) (xf-longer p' n n' h)))
       xf-later
       (order n 5)
 
@@ -208,7 +240,8 @@ module _ (p p' : List ℕ) (n n' : ℕ) (more : n ≤ n') (same : (k : ℕ) → 
       rw (eq-eqb n 0 z)
       (ext-waiting E n n' more 1
       (λ g. let z' : n' ≡ 0 = omega arith in rw (eq-eqb n' 0 z') (waiting-no-unit 1))
-      (λ g u. absurd (u (inl z))))
+      (λ g u. absurd (u (inl z)))
+      (λ c m l e. let f : Fair n' (unit c m l) = subst (Fair n') e (look-fair p' n' cp Closed) in omega (arith, f .0)))
 
   ext-some : 1 ≤ n → Extends E n n' (lookOf p n cp Closed) (lookOf p' n' cp Closed)
   unfolding lookOf

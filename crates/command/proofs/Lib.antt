@@ -1,6 +1,7 @@
 pub mod Refusals
 pub mod Opcodes
-pub mod Extends
 pub mod Bounds
+pub mod Ranges
+pub mod Extends
 pub mod Prefix
 pub mod Meanings

@@ -4,12 +4,13 @@ use mathlib.Core.List.{List, _++_}
 use Prim.Native.Nat.{ℕ, _+_, _<_, _≤_}
 use native.Mathlib.Omega.{arith}
 use lib.Dec.{lit<}
-use lib.ListN.{length, getD, length-append, List·getD-append}
+use lib.ListN.{length, getD, take, length-append, List·getD-append}
+use lib.Seq.{getD-take}
 use Rattle.octets.specs.BigEndian.{bigEndian}
-use Rattle.octets.proofs.Number.{Octets, agree}
+use Rattle.octets.proofs.Number.{agree}
 use Rattle.command.specs.declared.Draw.{Draw}
 use Rattle.command.specs.declared.Draw.the-variants.{Closed, Open}
-use Rattle.command.specs.Command.{Found, waiting}
+use Rattle.command.specs.Command.{Found, unit, waiting}
 use Rattle.command.specs.Look.{lookCp, xfWords, xfAddress, lookXf, lookIndexed, lookCall, lookBp, lookHead, lookVertex, byOpcode, lookOf}
 use Rattle.command.proofs.Extends.{Settled, NoUnit, Extends, Heads, look-extends}
 use Rattle.command.proofs.Bounds.{Fair, look-fair}
@@ -57,5 +58,12 @@ module _ (p q : List ℕ) (cp : List ℕ) (draw : Draw) where
   look-just k e h = goes-on .just k e (omega (arith, length-append p q))
 
 -- what is lacking is at least 1, and with what is there at most 129
-pub look-lacking : (p : List ℕ) → Octets p → (cp : List ℕ) (draw : Draw) (k : ℕ) → lookOf p (length p) cp draw ≡ waiting k → (1 ≤ k) × (length p + k ≤ 129)
-look-lacking p o cp draw k e = subst (Fair (length p)) e (look-fair p o (length p) cp draw)
+pub look-lacking : (p : List ℕ) (cp : List ℕ) (draw : Draw) (k : ℕ) → lookOf p (length p) cp draw ≡ waiting k → (1 ≤ k) × (length p + k ≤ 129)
+look-lacking p cp draw k e = subst (Fair (length p)) e (look-fair p (length p) cp draw)
+
+-- a unit is recognised from its own bytes alone
+pub look-alone : (p : List ℕ) (cp : List ℕ) (draw : Draw) (c : List ℕ) (m l : ℕ) → lookOf p (length p) cp draw ≡ unit c m l
+    → lookOf (take l p) l cp draw ≡ unit c m l
+look-alone p cp draw c m l e =
+    let f : Fair (length p) (unit c m l) = subst (Fair (length p)) e (look-fair p (length p) cp draw) in
+    look-extends (take l p) p l (length p) (f .1 .0) (λ k h. getD-take l p k 0 h) cp draw .alone c m l e (omega arith) ∙ e

@@ -67,3 +67,13 @@ pub agree : (a b : List ℕ) (at n : ℕ) → ((k : ℕ) → k < at + n → getD
 unfolding bigEndian
 agree a b at zero same = refl
 agree a b at (suc n) same = rw (agree a b at n (λ k h. same k (omega arith)), same (at + n) (omega arith))
+
+-- a part of a list of bytes is one
+pub octets-take : (l : List ℕ) (n : ℕ) → Octets l → Octets (take n l)
+octets-take l zero o k = lit< tt
+octets-take [] (suc n) o k = lit< tt
+octets-take (x ∷ l) (suc n) o zero = o 0
+octets-take (x ∷ l) (suc n) o (suc k) = octets-take l n (λ i. o (suc i)) k
+
+pub octets-drop : (l : List ℕ) (n : ℕ) → Octets l → Octets (drop n l)
+octets-drop l n o k = rw (getD-drop n l k 0) (o (n + k))

@@ -3,3 +3,5 @@ pub mod Words
 pub mod Outcomes
 pub mod RoundTrip
 pub mod Back
+pub mod Again
+pub mod Accepts

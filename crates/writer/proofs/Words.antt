@@ -23,7 +23,7 @@ unfolding wordBytes
 words-append [] ys = refl
 words-append (x ∷ xs) ys = rw (words-append xs ys, append-assoc)
 
-words-one : (w : ℕ) → wordBytes (w ∷ []) ≡ bytesOf 4 w
+pub words-one : (w : ℕ) → wordBytes (w ∷ []) ≡ bytesOf 4 w
 unfolding wordBytes
 words-one w = append-nil (bytesOf 4 w)
 

@@ -1,3 +1,4 @@
 pub mod Write
 pub mod Heads
 pub mod Widths
+pub mod Again
