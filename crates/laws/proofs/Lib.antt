@@ -1,3 +1,4 @@
 pub mod Table
 pub mod Cases
 pub mod Remainder
+pub mod Lists
