@@ -1,3 +1,5 @@
 pub mod Window
 pub mod Answers
 pub mod Registers
+pub mod Pending
+pub mod Feeding

@@ -1,10 +1,12 @@
 // What one port owns of the command stream: the ring window, its hardware registers, counting and feeding, and a cursor that reads what
 // is pending.
 mod access;
+mod feeding;
 mod rules;
 
 pub use access::read_register;
 pub use access::write_register;
+pub use feeding::feed;
 use refusal::Reason;
 pub use rules::count;
 pub use rules::ready;
