@@ -1,6 +1,6 @@
 -- Feeding: what is accepted comes to the end of the queue, and only the fed places change.
 use Prim.Native.Nat.{ℕ, _+_, _-_, _%_, _≤_, _<_}
-use mathlib.Core.Path.{_≡_, refl, sym, ap, _∙_}
+use mathlib.Core.Path.{_≡_, refl, sym, ap, subst, _∙_}
 use mathlib.Core.Logic.{⊎-elim}
 use mathlib.Core.Bool.{Bool, true, false, cond}
 use mathlib.Core.List.{List, [], _∷_, _++_, append-nil}
@@ -19,7 +19,7 @@ use Rattle.fifo.specs.Window.{sizeOf, Ready, readyBy, countOf, accept, p
 use Rattle.fifo.specs.Pending.{pending}
 use Rattle.fifo.specs.Feeding.{roomOf, feedRefusal, fed, accepted, bytesAccepted, fifoAfter, ringAfter, FedBy}
 use Rattle.fifo.proofs.WindowLaws.{ready-true, true-ready, count-below}
-use Rattle.fifo.proofs.Moves.{write-after, accept-valid, count-accept}
+use Rattle.fifo.proofs.Moves.{write-after, ready-accept, count-accept}
 use Rattle.fifo.proofs.Pending.{length-pending, pending-at}
 use Rattle.fifo.proofs.Stretches.{length-put-round, round-at, round-other}
 
@@ -43,10 +43,6 @@ unfolding accepted feedRefusal
 accepted-fits f ring bytes e =
     fits-by f (length ring) (length bytes) (readyBy f (length ring)) (leb (length bytes) (roomOf (f .window))) refl refl
     (eqb-true _ _ e)
-
-same-size : (f : Fifo) (n : ℕ) → sizeOf (f .window) ≡ sizeOf (accept f n .window)
-unfolding accept
-same-size f n = refl
 
 module _ (f : Fifo) (ring bytes : List ℕ) (a : Fits f (length ring) (length bytes)) where
   turn : f .window .write - f .window .start + (f .window .end - f .window .write) ≡ length ring
@@ -134,12 +130,8 @@ module _ (f : Fifo) (ring bytes : List ℕ) where
   ready-after r =
       ⊎-elim
       (λ t.
-      let a = accepted-fits f ring bytes t in
-      rw t
-      (record {
-        valid = accept-valid f (r .valid) (length bytes);
-        whole = length-fed f ring bytes a ∙ r .whole ∙ same-size f (length bytes);
-      }))
+      let e : length (fed (f .window) ring bytes) ≡ length ring = length-fed f ring bytes (accepted-fits f ring bytes t) in
+      rw t (subst (λ (m : ℕ). Ready (accept f (length bytes)) m) (sym e) (ready-accept f (length ring) r (length bytes))))
       (λ t. rw t r)
       (tested (accepted f ring bytes))
 

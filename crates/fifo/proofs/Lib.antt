@@ -5,3 +5,4 @@ pub mod Moves
 pub mod Pending
 pub mod Stretches
 pub mod FeedLaws
+pub mod CursorLaws

@@ -2,12 +2,12 @@
 use Prim.Native.Nat.{ℕ, _+_, _-_, _%_, _≤_, _<_}
 use mathlib.Core.Path.{_≡_, sym, ap, _∙_}
 use mathlib.Core.Logic.{_⊎_, inl, inr, ⊎-elim}
-use native.Mathlib.Nat.{mod-lt, add-mod-right}
+use native.Mathlib.Nat.{mod-lt, mod-eq-of-lt, mod-add-mod, add-mod-right, add-sub-cancel-left, add-zero}
 use native.Mathlib.Omega.{arith}
 use Rattle.laws.proofs.Remainder.{mod-two}
 use Rattle.fifo.specs.declared.Window.{Window}
 use Rattle.fifo.specs.declared.Fifo.{Fifo}
-use Rattle.fifo.specs.Window.{sizeOf, Valid, countOf, withWindow, withWrite, accept, consume, placeAfter}
+use Rattle.fifo.specs.Window.{Ready, withRead, sizeOf, Valid, countOf, withWindow, withWrite, accept, consume, placeAfter}
 use Rattle.fifo.proofs.WindowLaws.{count-cases, count-below}
 
 pub place-below : (w : Window) → Valid w → (p n : ℕ) → placeAfter w p n < sizeOf w
@@ -92,3 +92,34 @@ accept-round f v n h l =
     let b = place-below w v (w .write) n in
     accept-to f n (w .start + (n - (w .end - w .write)))
     (⊎-elim (λ m. omega (arith, m)) (λ m. omega (arith, m)) (place-cases w v (w .write) n (omega arith) (omega arith) (omega arith)))
+
+-- a ready fifo stays ready
+pub ready-consume : (f : Fifo) (m : ℕ) → Ready f m → (n : ℕ) → Ready (consume f n) m
+unfolding consume
+ready-consume f m r n = record { valid = consume-valid f (r .valid) n; whole = r .whole }
+
+pub ready-accept : (f : Fifo) (m : ℕ) → Ready f m → (n : ℕ) → Ready (accept f n) m
+unfolding accept
+ready-accept f m r n = record { valid = accept-valid f (r .valid) n; whole = r .whole }
+
+-- consuming nothing changes nothing
+pub consume-none : (f : Fifo) → Valid (f .window) → consume f 0 ≡ f
+unfolding consume
+consume-none f v =
+    let w : Window = f .window in
+    let e : w .start + placeAfter w (w .read) 0 ≡ w .read =
+    ap (λ (x : ℕ). w .start + x % sizeOf w) (add-zero (w .read - w .start)) ∙
+    ap (λ (x : ℕ). w .start + x) (mod-eq-of-lt (omega arith)) ∙
+    omega arith in
+    ap (λ (x : ℕ). withWindow f (withRead w x)) e
+
+-- two moves are one
+pub consume-consume : (f : Fifo) (a b : ℕ) → consume (consume f a) b ≡ consume f (a + b)
+unfolding consume
+consume-consume f a b =
+    let w : Window = f .window in
+    let q : w .read - w .start + a + b ≡ w .read - w .start + (a + b) = omega arith in
+    ap (λ (x : ℕ). withWindow f (withRead w (w .start + x)))
+    (ap (λ (x : ℕ). (x + b) % sizeOf w) (add-sub-cancel-left (w .start) (placeAfter w (w .read) a)) ∙
+    mod-add-mod (w .read - w .start + a) (sizeOf w) b ∙
+    ap (λ (x : ℕ). x % sizeOf w) q)

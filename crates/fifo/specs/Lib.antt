@@ -3,3 +3,4 @@ pub mod Answers
 pub mod Registers
 pub mod Pending
 pub mod Feeding
+pub mod Cursor

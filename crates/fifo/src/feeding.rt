@@ -13,7 +13,7 @@ ghost use Rattle.fifo.specs.Window.{sizeOf, Valid, accept};
 ghost use Rattle.fifo.specs.Feeding.{put, putRound, FedBy};
 
 // Stores bytes in the ring from a place on.
-fn store(ring: &mut [u8], at: usize, bytes: &[u8])
+pub(crate) fn store(ring: &mut [u8], at: usize, bytes: &[u8])
     requires { ⌜ at + length (now bytes) ≤ length (now ring) ⌝ }
     ensures { λ _. ⌜ now (ring .exit) ≡ put (now (ring .entry)) at (now (bytes .entry)) ⌝ }
 {

@@ -46,6 +46,11 @@ pub fill-more : (f : ℕ → ℕ) (n : ℕ) (d : List ℕ) → n < length d
     → set (tab n f ++ drop n d) n (f n) ≡ tab (n + 1) f ++ drop (n + 1) d
 fill-more f n d l = fill-suc f n d l ∙ ap (λ (k : ℕ). tab k f ++ drop k d) (sym (add-one n))
 
+-- a turn of the loop that fills
+pub fill-next : (f : ℕ → ℕ) (n : ℕ) (d : List ℕ) {l : List ℕ} {v : ℕ} → n < length d → l ≡ tab n f ++ drop n d → v ≡ f n
+    → set l n v ≡ tab (n + 1) f ++ drop (n + 1) d
+fill-next f n d h e q = rw (e, q) (fill-more f n d h)
+
 pub fill-all : (f : ℕ → ℕ) (n : ℕ) (d : List ℕ) → length d ≡ n → tab n f ++ drop n d ≡ tab n f
 fill-all f n d e = ap (λ (t : List ℕ). tab n f ++ t) (drop-of-length-le d (le-of-eq e)) ∙ append-nil (tab n f)
 
