@@ -2,7 +2,7 @@
 use Prim.Native.Nat.{ℕ, _+_, _-_, _*_, _/_, _%_}
 use mathlib.Core.Bool.{Bool, cond, _&&_, _||_, not}
 use mathlib.Core.List.{List, [], _∷_}
-use lib.Dec.{leb, eqb}
+use lib.Dec.{ltb, leb, eqb}
 use lib.ListN.{getD, set}
 use Rattle.fifo.specs.declared.Window.{Window}
 use Rattle.fifo.specs.declared.Fifo.{Fifo}
@@ -53,11 +53,11 @@ writable o = listed o && not (computed o)
 unfoldable pub statusOf : Window → Bool → ℕ
 statusOf w drawing = cond (eqb (w .read) (w .write)) 4 0 + cond drawing 0 8
 
--- what a register holds
+-- what a readable register holds: 000 status, 002 control, and from 020 on the halves of the words
 unfoldable pub valueOf : Fifo → Bool → ℕ → ℕ
 valueOf f drawing o =
     cond (eqb o 0) (statusOf (f .window) drawing)
-    (cond (eqb o 2) (f .control) (halfOf (isHigh o) (getD (words (f .window)) (wordAt o) 0)))
+    (cond (ltb o 0x20) (f .control) (halfOf (isHigh o) (getD (words (f .window)) (wordAt o) 0)))
 
 -- the answer of a read: 17, 1, or 0 and the value
 unfoldable pub readAnswer : Fifo → Bool → ℕ → List ℕ
@@ -68,9 +68,9 @@ readAnswer f drawing o =
 unfoldable pub withRegister : Window → ℕ → ℕ → Window
 withRegister w o v = fromWords (set (words w) (wordAt o) (withHalf (isHigh o) (getD (words w) (wordAt o) 0) v))
 
--- "Control keeps its low 6 bits. .. A write to 004 is accepted and changes nothing."
+-- a writable register written: "A write to 004 is accepted and changes nothing. .. Control [002] keeps its low 6 bits."
 unfoldable pub stored : Fifo → ℕ → ℕ → Fifo
-stored f o v = cond (eqb o 2) (withControl f (v % 64)) (cond (eqb o 4) f (withWindow f (withRegister (f .window) o v)))
+stored f o v = cond (eqb o 4) f (cond (ltb o 0x20) (withControl f (v % 64)) (withWindow f (withRegister (f .window) o v)))
 
 -- the answer of a write: 17, or accepted
 unfoldable pub writeAnswer : ℕ → List ℕ

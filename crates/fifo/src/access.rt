@@ -139,7 +139,7 @@ pub fn read_register(fifo: Fifo, drawing: bool, offset: u16) -> Reading
     if offset == 0 {
         return Reading::Value(status(window, drawing));
     }
-    if offset == 2 {
+    if offset < 0x20 {
         return Reading::Value(fifo.control);
     }
     Reading::Value(half(offset / 2 % 2 == 1, word(window, (offset - 0x20) / 4)))
@@ -155,15 +155,15 @@ pub fn write_register(fifo: Fifo, offset: u16, value: u16) -> Changed
             answer: Answer::Refused(Reason::UnknownOffset),
         };
     }
-    if offset == 2 {
-        return Changed {
-            fifo: with_control(fifo, value % 64),
-            answer: Answer::Accepted,
-        };
-    }
     if offset == 4 {
         return Changed {
             fifo,
+            answer: Answer::Accepted,
+        };
+    }
+    if offset < 0x20 {
+        return Changed {
+            fifo: with_control(fifo, value % 64),
             answer: Answer::Accepted,
         };
     }

@@ -2,7 +2,7 @@
 use mathlib.Core.Path.{_≡_, sym, _∙_}
 use Prim.Native.Nat.{ℕ}
 use mathlib.Core.Bool.{Bool, true, false, _&&_, not}
-use borrow.Author.Tests.{eq-eqb, ne-eqb, not-true, not-false}
+use borrow.Author.Tests.{eq-eqb, ne-eqb, lt-ltb, le-ltb, not-true, not-false}
 use Rattle.fifo.specs.declared.Fifo.{Fifo}
 use Rattle.fifo.specs.Window.{validBy}
 use Rattle.fifo.specs.Registers.{computed, readable, readAnswer, valueOf}
@@ -25,7 +25,7 @@ rules-at : (c : tie.Else2) → broken (start c .args .fifo) (start c .args .offs
 rules-at c = rw (c .before .before .is-computed .ensures, c .before .valid .ensures) at (c .if2 .left)
 
 word-at : (c : tie.Else4) → WordOffset (c .before .before .before .before .before .before .before .before .args .offset)
-word-at c = readable-word _ (read-at (c .before .before .before .before .before)) (c .before .if3 .left) (c .if4 .left)
+word-at c = readable-word _ (read-at (c .before .before .before .before .before)) (c .if4 .left)
 
 is-readable-requires : tie.Need-is-readable-requires
 is-readable-requires c κs = search needs
@@ -59,10 +59,7 @@ returns-4 : tie.Need-returns-4
 unfolding readAnswer valueOf
 returns-4 c =
     let tested = c .before .before in
-    rw (read-at (tested .before .before .before), rules-at tested, ne-eqb _ _ (c .before .if3 .left), eq-eqb _ _ (c .if4 .taken))
-
-sub-word : tie.Need-sub-word
-sub-word c = word-at c .from
+    rw (read-at (tested .before .before .before), rules-at tested, ne-eqb _ _ (c .before .if3 .left), lt-ltb _ _ (c .if4 .taken))
 
 word-requires : tie.Need-word-requires
 word-requires c κs = (word-at c .place, λ e. valid-true _ (checked _ _ (rules-at (c .before .before)) (word-at c .counted e)))
@@ -79,7 +76,7 @@ returns-5 c =
       read-at (tested .before .before .before),
       rules-at tested,
       ne-eqb _ _ (at .before .if3 .left),
-      ne-eqb _ _ (at .if4 .left),
+      le-ltb _ _ (at .if4 .left),
       c .half .ensures,
       c .before .word .ensures,
     )
@@ -96,7 +93,6 @@ read-register-spec =
     status-requires
     returns-3
     returns-4
-    sub-word
     word-requires
     half-requires
     returns-5)

@@ -1,7 +1,7 @@
 -- `fifo::access::write_register` meets its contract: the tests are made in the definition's order, and each answer is its arm.
 use mathlib.Core.Path.{_≡_, sym, _∙_}
 use mathlib.Core.Bool.{true, false, false≢true}
-use borrow.Author.Tests.{eq-eqb, ne-eqb, not-true, not-false}
+use borrow.Author.Tests.{eq-eqb, ne-eqb, lt-ltb, le-ltb, not-true, not-false}
 use Rattle.fifo.specs.Registers.{wordAt, writable, writeAnswer, written, stored, withRegister}
 use Rattle.fifo.proofs.RegisterLaws.{writable-word, writable-stored, WordOffset}
 use borrow.Author.Needs.{needs}
@@ -12,7 +12,7 @@ writable-at : (c : tie.Else1) → writable (c .before .before .args .offset) ≡
 writable-at c = sym (c .before .is-writable .ensures) ∙ not-false _ (c .if1 .left)
 
 word-at : (c : tie.Else3) → WordOffset (c .before .before .before .before .args .offset)
-word-at c = writable-word _ (writable-at (c .before .before)) (c .before .if2 .left) (c .if3 .left)
+word-at c = writable-word _ (writable-at (c .before .before)) (c .if3 .left)
 
 not-count : (c : tie.Else3) → wordAt (c .before .before .before .before .args .offset) ≡ 4 → ⊥
 not-count c e = false≢true (sym (writable-stored _ (writable-at (c .before .before))) ∙ word-at c .counted e)
@@ -26,23 +26,23 @@ returns c =
     let no = sym (c .before .is-writable .ensures) ∙ not-true _ (c .if1 .taken) in
     record { answer-is = rw no; fifo-is = rw no }
 
-with-control-requires : tie.Need-with-control-requires
-with-control-requires c κs = search needs
-
 returns-2 : tie.Need-returns-2
 unfolding writeAnswer written stored
 returns-2 c =
-    let yes = writable-at (c .before .before) in
-    record { answer-is = rw yes; fifo-is = rw (yes, eq-eqb _ _ (c .before .if2 .taken), c .with-control .ensures) }
+    let yes = writable-at (c .before) in
+    record { answer-is = rw yes; fifo-is = rw (yes, eq-eqb _ _ (c .if2 .taken)) }
+
+with-control-requires : tie.Need-with-control-requires
+with-control-requires c κs = search needs
 
 returns-3 : tie.Need-returns-3
 unfolding writeAnswer written stored
 returns-3 c =
-    let yes = writable-at (c .before .before) in
-    record { answer-is = rw yes; fifo-is = rw (yes, ne-eqb _ _ (c .before .if2 .left), eq-eqb _ _ (c .if3 .taken)) }
-
-sub-place : tie.Need-sub-place
-sub-place c = word-at (c .before) .from
+    let yes = writable-at (c .before .before .before) in
+    record {
+      answer-is = rw yes;
+      fifo-is = rw (yes, ne-eqb _ _ (c .before .before .if2 .left), lt-ltb _ _ (c .before .if3 .taken), c .with-control .ensures);
+    }
 
 word-requires : tie.Need-word-requires
 word-requires c κs = (word-at (c .before) .place, λ e. absurd (not-count (c .before) e))
@@ -67,7 +67,7 @@ returns-4 c =
           rw (
             yes,
             ne-eqb _ _ (at .before .if2 .left),
-            ne-eqb _ _ (at .if3 .left),
+            le-ltb _ _ (at .if3 .left),
             c .with-window .ensures,
             c .before .with-word .ensures,
             c .before .before .with-half .ensures,
@@ -81,10 +81,9 @@ write-register-spec =
     (tie.spec
     is-writable-requires
     returns
-    with-control-requires
     returns-2
+    with-control-requires
     returns-3
-    sub-place
     word-requires
     with-half-requires
     with-word-requires
