@@ -10,10 +10,11 @@ use lib.Dec.{leb, ltb}
 use lib.ListN.{length, getD, take, drop, length-drop}
 use lib.Seq.{ext-getD, length-take-le, getD-take, getD-drop}
 use borrow.Author.Tests.{leb-true, ltb-true, ltb-false, lt-ltb, le-ltb}
-use Rattle.laws.specs.Lists.{tab}
+use Rattle.laws.specs.Values.{upTo}
 use Rattle.laws.proofs.Cases.{and-left, and-right}
 use Rattle.laws.proofs.Remainder.{mod-two}
-use Rattle.laws.proofs.Lists.{length-tab, getD-tab, tab-ext}
+use Rattle.laws.proofs.Filled.{length-upTo, getD-upTo}
+use Rattle.laws.proofs.Front.{upTo-ext}
 use Rattle.fifo.specs.declared.Window.{Window}
 use Rattle.fifo.specs.declared.Fifo.{Fifo}
 use Rattle.fifo.specs.declared.Cursor.{Cursor}
@@ -45,25 +46,25 @@ straight-byte c ring s k h = rw (lt-ltb k (c .left) (omega arith), lt-ltb k (c .
 
 -- the bytes of a straight stretch lie side by side
 pub straight-bytes : (c : Cursor) (ring : List ℕ) (n : ℕ) → Straight c n → c .at + n ≤ length ring
-    → take n (drop (c .at) ring) ≡ tab n (byteOf c ring)
+    → take n (drop (c .at) ring) ≡ upTo (byteOf c ring) n
 straight-bytes c ring n s h =
     let l : length (take n (drop (c .at) ring)) ≡ n = length-take-le n (drop (c .at) ring) (omega (arith, length-drop (c .at) ring)) in
-    ext-getD 0 (take n (drop (c .at) ring)) (tab n (byteOf c ring)) (l ∙ sym (length-tab n (byteOf c ring)))
+    ext-getD 0 (take n (drop (c .at) ring)) (upTo (byteOf c ring) n) (l ∙ sym (length-upTo (byteOf c ring) n))
     (λ k b.
     let b' : k < n = omega arith in
     getD-take n (drop (c .at) ring) k 0 b' ∙
     getD-drop (c .at) ring k 0 ∙
-    sym (getD-tab n (byteOf c ring) k 0 b' ∙ straight-byte c ring s k b'))
+    sym (getD-upTo (byteOf c ring) n k b' ∙ straight-byte c ring s k b'))
 
 -- storing a list at the front
 front-put : (out l : List ℕ) (n : ℕ) → length l ≡ n → put out 0 l ≡ l ++ drop n out
 front-put out l n e = ap (λ (k : ℕ). l ++ drop k out) (zero-add (length l) ∙ e)
 
 pub straight-put : (c : Cursor) (ring out : List ℕ) (n : ℕ) → Straight c n → c .at + n ≤ length ring
-    → put out 0 (take (c .at + n - c .at) (drop (c .at) ring)) ≡ tab n (byteOf c ring) ++ drop n out
+    → put out 0 (take (c .at + n - c .at) (drop (c .at) ring)) ≡ upTo (byteOf c ring) n ++ drop n out
 straight-put c ring out n s h =
     let f : ℕ → ℕ = byteOf c ring in
-    rw (add-sub-cancel-left (c .at) n, straight-bytes c ring n s h) (front-put out (tab n f) n (length-tab n f))
+    rw (add-sub-cancel-left (c .at) n, straight-bytes c ring n s h) (front-put out (upTo f n) n (length-upTo f n))
 
 -- ---- the cursor of a ready fifo
 
@@ -100,15 +101,15 @@ module _ (f : Fifo) (ring : List ℕ) (r : Ready f (length ring)) where
       (gap-count (f .window) (r .valid)) ∙
       byte-by k (ltb k (countOf (f .window))) refl
 
-  bytes-are : (n : ℕ) → n ≤ countOf (f .window) → tab n (byteOf (opened f) ring) ≡ take n (pending (f .window) ring)
+  bytes-are : (n : ℕ) → n ≤ countOf (f .window) → upTo (byteOf (opened f) ring) n ≡ take n (pending (f .window) ring)
   bytes-are n h =
       let p : List ℕ = pending (f .window) ring in
       let l : length (take n p) ≡ n = length-take-le n p (omega (arith, length-pending (f .window) ring)) in
-      let t = length-tab n (byteOf (opened f) ring) in
-      ext-getD 0 (tab n (byteOf (opened f) ring)) (take n p) (t ∙ sym l)
+      let t = length-upTo (byteOf (opened f) ring) n in
+      ext-getD 0 (upTo (byteOf (opened f) ring) n) (take n p) (t ∙ sym l)
       (λ k b.
       let b' : k < n = omega arith in
-      getD-tab n (byteOf (opened f) ring) k 0 b' ∙ byte-is k ∙ sym (getD-take n p k 0 b'))
+      getD-upTo (byteOf (opened f) ring) n k b' ∙ byte-is k ∙ sym (getD-take n p k 0 b'))
 
   skip-is : (n : ℕ) → n ≤ countOf (f .window) → skipped (opened f) n ≡ opened (consume f n)
   unfolding skipped opened consume
@@ -144,9 +145,9 @@ module _ (f : Fifo) (ring : List ℕ) (r : Ready f (length ring)) where
       let s = straight-true (opened f) n e in
       sym (straight-bytes (opened f) ring n s (straight-within n e) ∙ bytes-are n (omega (arith, s .there, left-is)))
 
-  peek-is : peeked (opened f) ring ≡ tab 9 (λ k. getD (pending (f .window) ring) k 0)
+  peek-is : peeked (opened f) ring ≡ upTo (λ k. getD (pending (f .window) ring) k 0) 9
   unfolding peeked
-  peek-is = tab-ext 9 (byteOf (opened f) ring) (λ k. getD (pending (f .window) ring) k 0) (λ k h. byte-is k)
+  peek-is = upTo-ext (byteOf (opened f) ring) (λ k. getD (pending (f .window) ring) k 0) 9 (λ k h. byte-is k)
 
   copy-is : (out : List ℕ) (n : ℕ) → n ≤ countOf (f .window) → n ≤ length out
       → copied (opened f) ring out n ≡ take n (pending (f .window) ring) ++ drop n out

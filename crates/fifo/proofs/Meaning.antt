@@ -6,7 +6,7 @@ use native.Mathlib.Omega.{arith}
 use Rattle.refusal.specs.Number.{number}
 use Rattle.refusal.specs.declared.Reason.{Reason}
 use Rattle.refusal.proofs.Injective.{number-injective}
-use Rattle.refusal.proofs.Positive.{number-positive}
+use Rattle.refusal.proofs.Positive.{number-some}
 use Rattle.fifo.specs.declared.Counted.{Counted}
 use Rattle.fifo.specs.declared.Counted.the-variants as counted
 use Rattle.fifo.specs.declared.Reading.{Reading}
@@ -25,7 +25,7 @@ differ : (a b c : ℕ) → a ∷ b ∷ [] ≡ c ∷ [] → ⊥
 differ a b c e = let z : _≡_ {A = ℕ} 0 1 = cc in omega arith
 
 none : (r : Reason) → 0 ∷ [] ≡ number r ∷ [] → ⊥
-none r e = omega (arith, one 0 (number r) e, number-positive r)
+none r e = omega (arith, one 0 (number r) e, number-some r)
 
 same : (r s : Reason) → number r ∷ [] ≡ number s ∷ [] → r ≡ s
 same r s e = number-injective r s (one (number r) (number s) e)

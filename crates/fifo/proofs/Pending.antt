@@ -6,7 +6,7 @@ use native.Mathlib.Nat.{mod-add-mod, add-sub-cancel-left}
 use native.Mathlib.Omega.{arith}
 use lib.ListN.{length, getD, drop, length-drop, List·getD-eq-default}
 use lib.Seq.{ext-getD, getD-drop}
-use Rattle.laws.proofs.Lists.{length-tab, getD-tab}
+use Rattle.laws.proofs.Filled.{length-upTo, getD-upTo}
 use Rattle.fifo.specs.declared.Window.{Window}
 use Rattle.fifo.specs.declared.Fifo.{Fifo}
 use Rattle.fifo.specs.Window.{sizeOf, Valid, countOf, consume, placeAfter}
@@ -15,12 +15,12 @@ use Rattle.fifo.proofs.Moves.{count-consume}
 
 pub length-pending : (w : Window) (ring : List ℕ) → length (pending w ring) ≡ countOf w
 unfolding pending
-length-pending w ring = length-tab (countOf w) (λ k. getD ring (placeAfter w (w .read) k) 0)
+length-pending w ring = length-upTo (λ k. getD ring (placeAfter w (w .read) k) 0) (countOf w)
 
 -- the pending byte at k, and past the last
 pub pending-at : (w : Window) (ring : List ℕ) (k : ℕ) → k < countOf w → getD (pending w ring) k 0 ≡ getD ring (placeAfter w (w .read) k) 0
 unfolding pending
-pending-at w ring k h = getD-tab (countOf w) (λ i. getD ring (placeAfter w (w .read) i) 0) k 0 h
+pending-at w ring k h = getD-upTo (λ i. getD ring (placeAfter w (w .read) i) 0) (countOf w) k h
 
 pub pending-past : (w : Window) (ring : List ℕ) (k : ℕ) → countOf w ≤ k → getD (pending w ring) k 0 ≡ 0
 pending-past w ring k h = List·getD-eq-default (pending w ring) 0 (omega (arith, length-pending w ring))

@@ -7,7 +7,7 @@ use native.Mathlib.Omega.{arith}
 use lib.Dec.{leb, eqb}
 use borrow.Author.Tests.{leb-true, eqb-true, not-true, not-false}
 use Rattle.laws.proofs.Cases.{order, and-left, and-right}
-use Rattle.laws.proofs.Lists.{or-cases}
+use Rattle.laws.proofs.Tests.{or-cases}
 use Rattle.fifo.specs.Registers.{wordAt, listed, computed, readable, writable}
 
 -- an offset of a word: its place is one of the seven, and the count's place only where the offset is the count's

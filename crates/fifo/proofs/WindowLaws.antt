@@ -9,7 +9,7 @@ use lib.Dec.{eqb}
 use lib.ListN.{getD}
 use borrow.Author.Tests.{ltb-true, leb-true, eqb-true, lt-ltb, le-leb, lt-leb, eq-eqb}
 use Rattle.laws.proofs.Cases.{order, and-left, and-right}
-use Rattle.laws.proofs.Lists.{all-hold}
+use Rattle.laws.proofs.Tests.{all-hold}
 use Rattle.laws.proofs.Remainder.{mod-two}
 use Rattle.fifo.specs.declared.Window.{Window}
 use Rattle.fifo.specs.declared.Fifo.{Fifo}

@@ -6,7 +6,7 @@ use mathlib.Core.Bool.{Bool, true, cond, _&&_}
 use mathlib.Core.List.{List, _++_}
 use lib.Dec.{ltb, leb}
 use lib.ListN.{length, getD, take, drop}
-use Rattle.laws.specs.Lists.{tab}
+use Rattle.laws.specs.Values.{upTo}
 use Rattle.fifo.specs.declared.Fifo.{Fifo}
 use Rattle.fifo.specs.declared.Cursor.{Cursor}
 use Rattle.fifo.specs.Window.{sizeOf, countOf, gapOf, withWindow, withRead, consume}
@@ -26,11 +26,11 @@ byteOf c ring k = cond (ltb k (c .left)) (getD ring (onward (c .at) k (c .size))
 
 -- the first nine bytes, zeros past the last
 unfoldable pub peeked : Cursor → List ℕ → List ℕ
-peeked c ring = tab 9 (byteOf c ring)
+peeked c ring = upTo (byteOf c ring) 9
 
 -- a list with its front replaced by the first n bytes, or by as many as it has place for
 unfoldable pub copied : Cursor → List ℕ → List ℕ → ℕ → List ℕ
-copied c ring out n = tab (min n (length out)) (byteOf c ring) ++ drop (min n (length out)) out
+copied c ring out n = upTo (byteOf c ring) (min n (length out)) ++ drop (min n (length out)) out
 
 -- the cursor n bytes on
 unfoldable pub skipped : Cursor → ℕ → Cursor
@@ -48,8 +48,8 @@ closed f c = cond (ltb (c .at) (sizeOf (f .window))) (withWindow f (withRead (f 
 pub record ReadsPending (f : Fifo) (ring : List ℕ) : Type 0 where
   pub left-is : opened f .left ≡ countOf (f .window)
   pub byte-is : (k : ℕ) → byteOf (opened f) ring k ≡ getD (pending (f .window) ring) k 0
-  pub bytes-are : (n : ℕ) → n ≤ countOf (f .window) → tab n (byteOf (opened f) ring) ≡ take n (pending (f .window) ring)
-  pub peek-is : peeked (opened f) ring ≡ tab 9 (λ k. getD (pending (f .window) ring) k 0)
+  pub bytes-are : (n : ℕ) → n ≤ countOf (f .window) → upTo (byteOf (opened f) ring) n ≡ take n (pending (f .window) ring)
+  pub peek-is : peeked (opened f) ring ≡ upTo (λ k. getD (pending (f .window) ring) k 0) 9
   pub copy-is : (out : List ℕ) (n : ℕ) → n ≤ countOf (f .window) → n ≤ length out
       → copied (opened f) ring out n ≡ take n (pending (f .window) ring) ++ drop n out
   pub straight-is : (n : ℕ) → straightBy (opened f) n ≡ true

@@ -2,10 +2,10 @@
 use Prim.Native.Nat.{ℕ}
 use mathlib.Core.List.{List}
 use lib.ListN.{getD}
-use Rattle.laws.specs.Lists.{tab}
+use Rattle.laws.specs.Values.{upTo}
 use Rattle.fifo.specs.declared.Window.{Window}
 use Rattle.fifo.specs.Window.{countOf, placeAfter}
 
 -- the bytes from the read pointer to the write pointer, in the order in which they were fed
 unfoldable pub pending : Window → List ℕ → List ℕ
-pending w ring = tab (countOf w) (λ k. getD ring (placeAfter w (w .read) k) 0)
+pending w ring = upTo (λ k. getD ring (placeAfter w (w .read) k) 0) (countOf w)

@@ -9,7 +9,7 @@ ghost use mathlib.Core.Path.{_≡_};
 ghost use mathlib.Core.List.{_++_};
 ghost use Prim.Native.Nat.{_≤_};
 ghost use lib.ListN.{length, drop};
-ghost use Rattle.laws.specs.Lists.{tab};
+ghost use Rattle.laws.specs.Values.{upTo};
 ghost use Rattle.fifo.specs.Cursor.{opened, onward, byteOf, peeked, copied, skipped, straightBy, closed};
 
 // The cursor at the read pointer, with all pending bytes left.
@@ -46,7 +46,7 @@ fn byte(cursor: Cursor, ring: &[u8], k: u32) -> u8
 // Copies byte after byte, round the ring's end or past the last.
 fn gather(cursor: Cursor, ring: &[u8], out: &mut [u8], n: u32)
     requires { ⌜ n ≤ length (now out) ⌝ }
-    ensures { λ _. ⌜ now (out .exit) ≡ tab n (byteOf cursor (now (ring .entry))) ++ drop n (now (out .entry)) ⌝ }
+    ensures { λ _. ⌜ now (out .exit) ≡ upTo (byteOf cursor (now (ring .entry))) n ++ drop n (now (out .entry)) ⌝ }
 {
     let mut k: u32 = 0;
     while k < n {
@@ -58,7 +58,7 @@ fn gather(cursor: Cursor, ring: &[u8], out: &mut [u8], n: u32)
 // Copies n bytes, straight where they lie so.
 fn copy_front(cursor: Cursor, ring: &[u8], out: &mut [u8], n: u32)
     requires { ⌜ n ≤ length (now out) ⌝ }
-    ensures { λ _. ⌜ now (out .exit) ≡ tab n (byteOf cursor (now (ring .entry))) ++ drop n (now (out .entry)) ⌝ }
+    ensures { λ _. ⌜ now (out .exit) ≡ upTo (byteOf cursor (now (ring .entry))) n ++ drop n (now (out .entry)) ⌝ }
 {
     if !straight(cursor, n) {
         gather(cursor, ring, out, n);

@@ -1,4 +1,6 @@
 pub mod Table
 pub mod Cases
 pub mod Remainder
-pub mod Lists
+pub mod Filled
+pub mod Front
+pub mod Tests

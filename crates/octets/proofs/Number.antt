@@ -48,3 +48,22 @@ unfolding bigEndian
 big-lt l at b zero = lit< tt
 big-lt l at b (suc n) =
     subst (λ (x : ℕ). bigEndian l at n * 256 + getD l (at + n) 0 < 256 ^ x) (add-one n) (next-lt n (big-lt l at b n) (b (at + n)))
+
+-- ---- two, three and four bytes written out
+pub two-bytes : (l : List ℕ) (at : ℕ) → bigEndian l at 2 ≡ getD l at 0 * 256 + getD l (at + 1) 0
+unfolding bigEndian
+two-bytes l at = rw (add-zero at) (omega arith)
+
+pub three-bytes : (l : List ℕ) (at : ℕ) → bigEndian l at 3 ≡ (getD l at 0 * 256 + getD l (at + 1) 0) * 256 + getD l (at + 2) 0
+unfolding bigEndian
+three-bytes l at = rw (add-zero at) (omega arith)
+
+pub four-bytes : (l : List ℕ) (at : ℕ) → bigEndian l at 4 ≡ ((getD l at 0 * 256 + getD l (at + 1) 0) * 256 + getD l (at + 2) 0) * 256 + getD l (at + 3) 0
+unfolding bigEndian
+four-bytes l at = rw (add-zero at) (omega arith)
+
+-- a number reads only its own bytes
+pub agree : (a b : List ℕ) (at n : ℕ) → ((k : ℕ) → k < at + n → getD a k 0 ≡ getD b k 0) → bigEndian a at n ≡ bigEndian b at n
+unfolding bigEndian
+agree a b at zero same = refl
+agree a b at (suc n) same = rw (agree a b at n (λ k h. same k (omega arith)), same (at + n) (omega arith))

@@ -1,6 +1,6 @@
 // "All multi-byte numbers in the stream are big-endian": numbers as they stand in bytes.
 ghost use mathlib.Core.Path.{_≡_};
-ghost use Prim.Native.Nat.{_≤_};
+ghost use Prim.Native.Nat.{_+_, _*_, _<_, _≤_};
 ghost use lib.ListN.{getD};
 ghost use Rattle.octets.specs.BigEndian.{bigEndian, least};
 
@@ -30,4 +30,24 @@ pub fn read(bytes: &[u8], at: u32, n: u32) -> u32
         i += 1;
     }
     number
+}
+
+fn wide(b: u8) -> u32
+    ensures { λ r. ⌜ (r ≡ b) × (r < 256) ⌝ }
+{
+    b as u32
+}
+
+// Two bytes, the highest first.
+pub fn half(a: u8, b: u8) -> u16
+    ensures { λ r. ⌜ r ≡ a * 256 + b ⌝ }
+{
+    (wide(a) * 256 + wide(b)) as u16
+}
+
+// Four bytes, the highest first.
+pub fn word(a: u8, b: u8, c: u8, d: u8) -> u32
+    ensures { λ r. ⌜ r ≡ ((a * 256 + b) * 256 + c) * 256 + d ⌝ }
+{
+    ((wide(a) * 256 + wide(b)) * 256 + wide(c)) * 256 + wide(d)
 }

@@ -1,27 +1,31 @@
--- No reason has the number 0, which stands for a call that is accepted.
-use Prim.Native.Nat.{_<_}
-use lib.Dec.{lit<}
+-- No reason has the number 0, which stands for an accepted call.
+use Prim.Native.Nat.{_≤_}
+use lib.Dec.{lit≤}
 use Rattle.refusal.specs.Number.{number}
 use Rattle.refusal.specs.declared.Reason.{Reason}
-use Rattle.refusal.specs.declared.Reason.the-variants as reason
+use Rattle.refusal.specs.declared.Reason.the-variants.{InvalidState, XfMemoryLength, VertexBufferShort, ReadDisabled, LinkedMode}
+use Rattle.refusal.specs.declared.Reason.the-variants.{UnknownOpcode, UnknownCpAddress, XfLoadPastEnd, PositionAbsent}
+use Rattle.refusal.specs.declared.Reason.the-variants.{UnknownFormat, FeedTooLong, PatchLength, PatchOfMaskRegister}
+use Rattle.refusal.specs.declared.Reason.the-variants.{PatchMaskTooWide, PatchNumberOutsideMask, OutputShort, UnknownOffset}
+use Rattle.refusal.specs.declared.Reason.the-variants.{UnwritableCommand, NotOfLayout}
 
-pub number-positive : (r : Reason) → 0 < number r
-number-positive reason.InvalidState = lit< tt
-number-positive reason.XfMemoryLength = lit< tt
-number-positive reason.VertexBufferShort = lit< tt
-number-positive reason.ReadDisabled = lit< tt
-number-positive reason.LinkedMode = lit< tt
-number-positive reason.UnknownOpcode = lit< tt
-number-positive reason.UnknownCpAddress = lit< tt
-number-positive reason.XfLoadPastEnd = lit< tt
-number-positive reason.PositionAbsent = lit< tt
-number-positive reason.UnknownFormat = lit< tt
-number-positive reason.FeedTooLong = lit< tt
-number-positive reason.PatchLength = lit< tt
-number-positive reason.PatchOfMaskRegister = lit< tt
-number-positive reason.PatchMaskTooWide = lit< tt
-number-positive reason.PatchNumberOutsideMask = lit< tt
-number-positive reason.OutputShort = lit< tt
-number-positive reason.UnknownOffset = lit< tt
-number-positive reason.UnwritableCommand = lit< tt
-number-positive reason.NotOfLayout = lit< tt
+pub number-some : (r : Reason) → 1 ≤ number r
+number-some InvalidState = lit≤ tt
+number-some XfMemoryLength = lit≤ tt
+number-some VertexBufferShort = lit≤ tt
+number-some ReadDisabled = lit≤ tt
+number-some LinkedMode = lit≤ tt
+number-some UnknownOpcode = lit≤ tt
+number-some UnknownCpAddress = lit≤ tt
+number-some XfLoadPastEnd = lit≤ tt
+number-some PositionAbsent = lit≤ tt
+number-some UnknownFormat = lit≤ tt
+number-some FeedTooLong = lit≤ tt
+number-some PatchLength = lit≤ tt
+number-some PatchOfMaskRegister = lit≤ tt
+number-some PatchMaskTooWide = lit≤ tt
+number-some PatchNumberOutsideMask = lit≤ tt
+number-some OutputShort = lit≤ tt
+number-some UnknownOffset = lit≤ tt
+number-some UnwritableCommand = lit≤ tt
+number-some NotOfLayout = lit≤ tt

@@ -5,14 +5,14 @@ use Prim.Native.Nat.{ℕ, _-_, _≤_}
 use native.Mathlib.Omega.{arith}
 use lib.ListN.{length, drop, length-set}
 use borrow.Author.Needs.{needs}
-use Rattle.laws.specs.Lists.{tab}
-use Rattle.laws.proofs.Lists.{fill-none, fill-next}
+use Rattle.laws.specs.Values.{upTo}
+use Rattle.laws.proofs.Front.{front-none, front-next}
 use Rattle.fifo.specs.Cursor.{byteOf}
 use Rattle.fifo.proofs.queue.gather.Statement.{statement}
 use Rattle.fifo.proofs.queue.gather.Tie as tie
 
 abbrev Inv-loop : tie.InvT-loop
-Inv-loop cursor ring out₀ n k₀ out k = (k ≤ n) × (length out ≡ length out₀) × (out ≡ tab k (byteOf cursor ring) ++ drop k out₀)
+Inv-loop cursor ring out₀ n k₀ out k = (k ≤ n) × (length out ≡ length out₀) × (out ≡ upTo (byteOf cursor ring) k ++ drop k out₀)
 
 abbrev μ-loop : tie.MeasureT-loop
 μ-loop cursor ring out₀ n k₀ out k = n - k
@@ -20,7 +20,7 @@ abbrev μ-loop : tie.MeasureT-loop
 loop-holds : tie.Need-loop-holds Inv-loop μ-loop
 loop-holds c =
     let s = c .before .before in
-    (omega arith, refl, fill-none (byteOf (s .args .cursor) (s .args .ring .now)) (s .args .out .now))
+    (omega arith, refl, front-none (byteOf (s .args .cursor) (s .args .ring .now)) (s .args .out .now))
 
 byte-requires : tie.Need-byte-requires Inv-loop μ-loop
 byte-requires c κs = search needs
@@ -40,7 +40,7 @@ loop-less c = search needs
 loop-again : tie.Need-loop-again Inv-loop μ-loop
 loop-again c =
     let l = c .before .before .loop in
-    (omega arith, simp length-set (l .inv .1), fill-next _ _ _ (omega arith) (l .inv .2) (c .byte .ensures))
+    (omega arith, simp length-set (l .inv .1), front-next _ _ _ (omega arith) (l .inv .2) (c .byte .ensures))
 
 same-length : tie.Need-same-length Inv-loop μ-loop
 same-length c = search needs
@@ -50,7 +50,7 @@ returns c =
     let s = c .before .before .before .before in
     let e : c .before .loop .k ≡ s .args .n = omega arith in
     c .before .loop .inv .2 ∙
-    ap (λ (x : ℕ). tab x (byteOf (s .args .cursor) (s .args .ring .now)) ++ drop x (s .args .out .now)) e
+    ap (λ (x : ℕ). upTo (byteOf (s .args .cursor) (s .args .ring .now)) x ++ drop x (s .args .out .now)) e
 
 pub gather-spec : {M : Type 1} → statement M
 gather-spec =

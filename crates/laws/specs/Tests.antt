@@ -1,12 +1,6 @@
--- Lists that are given by their elements, and lists of tests.
-use Prim.Native.Nat.{ℕ, zero, suc}
+-- Lists of tests.
 use mathlib.Core.Bool.{Bool, true, _&&_}
 use mathlib.Core.List.{List, [], _∷_}
-
--- the list of f's values at 0 to n - 1
-unfoldable pub tab : ℕ → (ℕ → ℕ) → List ℕ
-tab zero f = []
-tab (suc n) f = f 0 ∷ tab n (λ i. f (suc i))
 
 -- whether a test and all of a list hold, in the order of the code's `&`
 abbrev pub allFrom : Bool → List Bool → Bool

@@ -1,0 +1,118 @@
+-- The bounds of an answer: a unit has 1 to 129 bytes and all of them are there; what waits lacks a byte or more, and 129 always do.
+use mathlib.Core.Path.{_≡_, refl, sym, ap, _∙_, subst}
+use mathlib.Core.Bool.{Bool, true, false, cond}
+use mathlib.Core.List.{List, [], _∷_}
+use Prim.Native.Nat.{ℕ, zero, suc, _+_, _-_, _*_, _/_, _%_, _^_, _<_, _≤_}
+use native.Mathlib.Omega.{arith}
+use lib.Dec.{ltb, eqb, lit≤, lit<}
+use lib.ListN.{getD}
+use borrow.Author.Tests.{ltb-true, ltb-false, eqb-true, eqb-false}
+use Rattle.laws.proofs.Cases.{cond-both}
+use Rattle.octets.specs.BigEndian.{bigEndian}
+use Rattle.octets.proofs.Number.{Octets, big-lt}
+use Rattle.layout.specs.declared.Descriptor.{Descriptor}
+use Rattle.layout.specs.Answers.{refusalOf, lengthOf}
+use Rattle.layout.proofs.Bounds.{length-bounds}
+use Rattle.command.specs.declared.Draw.{Draw}
+use Rattle.command.specs.declared.Draw.the-variants.{Closed, Open}
+use Rattle.command.specs.Command.{Found, unit, waiting, refused, kindOf, fieldOf, loadBp, drawHead, vertex}
+use Rattle.command.specs.Places.{cpAccepted}
+use Rattle.command.specs.Look.{whole, lookCp, xfCount, xfWords, xfAddress, lookXf, lookIndexed, lookCall, lookBp, descriptorOf, unlessRefused, lookHead, lookVertex, isIndexed, isDraw, byOpcode, lookOf}
+
+-- the fields of a command that was read fit their registers: a BP number has 24 bits, a primitive and a format three
+pub record Ranged (c : List ℕ) : Type 0 where
+  pub bp : kindOf c ≡ 0x61 → fieldOf c 2 < 2 ^ 24
+  pub head : kindOf c ≡ 0x80 → (fieldOf c 1 < 8) × (fieldOf c 2 < 8)
+
+-- what holds of every answer at n bytes
+abbrev pub Fair : ℕ → Found → Type 0
+Fair n (unit c m l) = ((1 ≤ l) × (l ≤ n)) × ((l ≤ 129) × Ranged c)
+Fair n (waiting k) = (1 ≤ k) × (n + k ≤ 129)
+Fair n (refused r) = Unit {0}
+
+fair-whole : (n length : ℕ) (c : List ℕ) (m : ℕ) → 1 ≤ length → length ≤ 129 → Ranged c → Fair n (whole n length c m)
+unfolding whole
+fair-whole n length c m some most r =
+    cond-both (Fair n) (ltb n length)
+    (λ t. let h : n < length = ltb-true n length t in (omega arith, omega arith))
+    (λ f. ((some, ltb-false n length f), (most, r)))
+
+fair-unless : (n r : ℕ) (x : Found) → (r ≡ 0 → Fair n x) → Fair n (unlessRefused r x)
+fair-unless n zero x f = f refl
+fair-unless n (suc r) x f = tt
+
+-- a command of another kind is ranged
+ranged-other : (kind : ℕ) (fields : List ℕ) → (kind ≡ 0x61 → ⊥) → (kind ≡ 0x80 → ⊥) → Ranged (kind ∷ fields)
+ranged-other kind fields p q = record { bp = λ e. absurd (p e); head = λ e. absurd (q e) }
+
+-- by a literal kind
+differ : {A : Type 0} (a b : ℕ) → eqb a b ≡ false → a ≡ b → A
+differ a b f e = absurd (eqb-false a b f e)
+
+ranged : (kind : ℕ) (fields : List ℕ) → eqb kind 0x61 ≡ false → eqb kind 0x80 ≡ false → Ranged (kind ∷ fields)
+ranged kind fields p q = ranged-other kind fields (differ kind 0x61 p) (differ kind 0x80 q)
+
+module _ (b : List ℕ) (o : Octets b) (n : ℕ) where
+  words-most : (xfWords b ≤ 16) × (1 ≤ xfWords b)
+  unfolding xfWords
+  words-most = (omega arith, omega arith)
+
+  fair-cp : 1 ≤ n → Fair n (lookCp b n)
+  unfolding lookCp
+  fair-cp h =
+      cond-both (Fair n) (ltb n 2) (λ t. let l : n < 2 = ltb-true n 2 t in (omega arith, omega arith))
+      (λ _. cond-both (Fair n) (cpAccepted (getD b 1 0)) (λ _. fair-whole n 6 _ 0 (lit≤ tt) (lit≤ tt) (ranged _ _ refl refl)) (λ _. tt))
+
+  fair-xf : Fair n (lookXf b n)
+  unfolding lookXf
+  fair-xf =
+      cond-both (Fair n) (ltb n 5) (λ t. let l : n < 5 = ltb-true n 5 t in (omega arith, omega arith))
+      (λ _. cond-both (Fair n) (ltb xfCount (xfAddress b + xfWords b)) (λ _. tt)
+      (λ _. fair-whole n (5 + 4 * xfWords b) _ 0 (omega arith) (omega (arith, words-most)) (ranged _ _ refl refl)))
+
+  fair-bp : Fair n (lookBp b n)
+  unfolding lookBp
+  fair-bp = fair-whole n 5 (loadBp (getD b 1 0) (bigEndian b 2 3)) 0 (lit≤ tt) (lit≤ tt) (record { bp = λ _. big-lt b 2 o 3; head = differ 0x61 0x80 refl })
+
+  fair-head : (op : ℕ) (cp : List ℕ) → Fair n (lookHead op b n cp)
+  unfolding lookHead
+  fair-head op cp =
+      fair-unless n (refusalOf (descriptorOf cp (op % 8))) _
+      (λ _. fair-whole n 3 (drawHead (op / 8 % 8) (op % 8) (bigEndian b 1 2)) 0 (lit≤ tt) (lit≤ tt)
+      (record { bp = differ 0x80 0x61 refl; head = λ _. (omega arith, omega arith) }))
+
+  -- an answer in an open draw, by the layout's length
+  fair-vertex : (d : Descriptor) → Fair n (unlessRefused (refusalOf d) (whole n (lengthOf d) vertex 0))
+  fair-vertex d =
+      fair-unless n (refusalOf d) _
+      (λ e. fair-whole n (lengthOf d) vertex 0 (length-bounds d e .0) (length-bounds d e .1) (ranged _ _ refl refl))
+
+  fair-opcode : (op : ℕ) (cp : List ℕ) → 1 ≤ n → Fair n (byOpcode op b n cp)
+  unfolding byOpcode lookCall lookIndexed
+  fair-opcode op cp h =
+      cond-both (Fair n) (eqb op 0x00) (λ _. plain 1 _ _ (lit≤ tt) (lit≤ tt) refl refl)
+      (λ _. cond-both (Fair n) (eqb op 0x48) (λ _. plain 1 _ _ (lit≤ tt) (lit≤ tt) refl refl)
+      (λ _. cond-both (Fair n) (eqb op 0x68) (λ _. plain 1 _ _ (lit≤ tt) (lit≤ tt) refl refl)
+      (λ _. cond-both (Fair n) (eqb op 0x08) (λ _. fair-cp h)
+      (λ _. cond-both (Fair n) (eqb op 0x10) (λ _. fair-xf)
+      (λ _. cond-both (Fair n) (isIndexed op) (λ _. fair-whole n 5 _ _ (lit≤ tt) (lit≤ tt) (ranged _ _ refl refl))
+      (λ _. cond-both (Fair n) (eqb op 0x40) (λ _. fair-whole n 9 _ 0 (lit≤ tt) (lit≤ tt) (ranged _ _ refl refl))
+      (λ _. cond-both (Fair n) (eqb op 0x61) (λ _. fair-bp)
+      (λ _. cond-both (Fair n) (isDraw op) (λ _. fair-head op cp) (λ _. tt)))))))))
+    where
+      plain : (length kind : ℕ) (fields : List ℕ) → 1 ≤ length → length ≤ 129 → eqb kind 0x61 ≡ false → eqb kind 0x80 ≡ false
+          → Fair n (whole n length (kind ∷ fields) 0)
+      plain length kind fields some most p q = fair-whole n length (kind ∷ fields) 0 some most (ranged kind fields p q)
+
+  pub look-fair : (cp : List ℕ) (draw : Draw) → Fair n (lookOf b n cp draw)
+  unfolding lookOf lookVertex
+  look-fair cp Closed =
+      cond-both (Fair n) (eqb n 0) (λ e. let z : n ≡ 0 = eqb-true n 0 e in (lit≤ tt, omega arith))
+      (λ f. let some : n ≡ 0 → ⊥ = eqb-false n 0 f in fair-opcode (getD b 0 0) cp (omega arith))
+  look-fair cp (Open primitive format left) = fair-vertex (descriptorOf cp format)
+
+-- "A full ring is never answered with waiting": with 129 bytes or more no answer is
+pub progress : (b : List ℕ) → Octets b → (n : ℕ) → 129 ≤ n → (cp : List ℕ) (draw : Draw) (k : ℕ) → lookOf b n cp draw ≡ waiting k → ⊥
+progress b o n h cp draw k e =
+    let f : Fair n (waiting k) = subst (Fair n) e (look-fair b o n cp draw) in
+    omega (arith, f .0, f .1)

@@ -1,0 +1,25 @@
+-- A layout's answer, as the look at a draw uses it.
+use mathlib.Core.Path.{_≡_, refl, sym, ap, _∙_}
+use mathlib.Core.List.{List, [], _∷_}
+use Prim.Native.Nat.{ℕ, zero, suc, _≤_}
+use native.Mathlib.Nat.{not-suc-le-zero}
+use Rattle.refusal.specs.Number.{number}
+use Rattle.refusal.specs.declared.Reason.{Reason}
+use Rattle.refusal.proofs.Positive.{number-some}
+use Rattle.command.specs.Command.{Found, refused}
+use Rattle.command.specs.Look.{unlessRefused}
+
+-- a number that is not 0 is a refusal
+unless-some : (n : ℕ) (found : Found) → 1 ≤ n → refused n ≡ unlessRefused n found
+unless-some zero found h = absurd (not-suc-le-zero h)
+unless-some (suc n) found h = refl
+
+pub unless-refused : (r : Reason) (n : ℕ) (found : Found) → number r ∷ [] ≡ n ∷ [] → refused (number r) ≡ unlessRefused n found
+unless-refused r n found e =
+    let k : number r ≡ n = cc in
+    unless-some (number r) found (number-some r) ∙ ap (λ (x : ℕ). unlessRefused x found) k
+
+pub unless-accepted : (n : ℕ) (found : Found) → 0 ∷ [] ≡ n ∷ [] → found ≡ unlessRefused n found
+unless-accepted n found e =
+    let k : 0 ≡ n = cc in
+    ap (λ (x : ℕ). unlessRefused x found) k

@@ -1,0 +1,61 @@
+-- `command::units::look_head` meets its contract: the layout's answer is the definition's refusal, and the count stands big-endian after the opcode.
+use borrow.Author.Needs.{needs}
+use Rattle.command.proofs.Refusals.{unless-refused, unless-accepted}
+use Rattle.command.specs.Look.{lookHead}
+use mathlib.Core.Path.{_∙_}
+use Rattle.octets.proofs.Number.{two-bytes}
+use Rattle.command.proofs.units.look_head.Statement.{statement}
+use Rattle.command.proofs.units.look_head.Tie as tie
+
+descriptor-requires : tie.Need-descriptor-requires
+descriptor-requires c κs = search needs
+
+lay-out-requires : tie.Need-lay-out-requires
+lay-out-requires c κs = search needs
+
+enum-known-answer : tie.Need-enum-known-answer
+enum-known-answer c = search needs
+
+enum-told : tie.Need-enum-told
+enum-told c = search needs
+
+array-read-half : tie.Need-array-read-half
+array-read-half c = search needs
+
+array-read-half-2 : tie.Need-array-read-half-2
+array-read-half-2 c = search needs
+
+half-requires : tie.Need-half-requires
+half-requires c κs = search needs
+
+unit-requires : tie.Need-unit-requires
+unit-requires c κs = search needs
+
+returns : tie.Need-returns
+unfolding lookHead
+returns c =
+    let laid = c .before .before .before in
+    rw (← laid .before .descriptor .ensures) (unless-refused (c .before .answer .given .0 .0) _ _ (rw (c .before .answer .given .1) at (laid .lay-out .ensures .answer-is)))
+
+returns-2 : tie.Need-returns-2
+unfolding lookHead
+returns-2 c =
+    let told = c .before .before in
+    let laid = told .before .before in
+    rw (← laid .before .descriptor .ensures, two-bytes _ 1, ← c .before .half .ensures)
+    (c .unit .ensures ∙ unless-accepted _ _ (rw (told .enum-told .given .1) at (laid .lay-out .ensures .answer-is)))
+
+pub look-head-spec : {M : Type 1} → statement M
+look-head-spec =
+    tie.close
+    (tie.spec
+    descriptor-requires
+    lay-out-requires
+    enum-known-answer
+    enum-told
+    array-read-half
+    array-read-half-2
+    half-requires
+    unit-requires
+    returns
+    returns-2)

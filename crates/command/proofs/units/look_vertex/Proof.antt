@@ -1,0 +1,48 @@
+-- `command::units::look_vertex` meets its contract: the layout's answer is the definition's refusal, and its length the vertex's.
+use borrow.Author.Needs.{needs}
+use mathlib.Core.Path.{_∙_}
+use Rattle.command.proofs.Refusals.{unless-refused, unless-accepted}
+use Rattle.command.specs.Look.{lookVertex}
+use Rattle.command.proofs.units.look_vertex.Statement.{statement}
+use Rattle.command.proofs.units.look_vertex.Tie as tie
+
+descriptor-requires : tie.Need-descriptor-requires
+descriptor-requires c κs = search needs
+
+lay-out-requires : tie.Need-lay-out-requires
+lay-out-requires c κs = search needs
+
+enum-known-answer : tie.Need-enum-known-answer
+enum-known-answer c = search needs
+
+enum-told : tie.Need-enum-told
+enum-told c = search needs
+
+unit-requires : tie.Need-unit-requires
+unit-requires c κs = search needs
+
+returns : tie.Need-returns
+unfolding lookVertex
+returns c =
+    let laid = c .before .before .before in
+    rw (← laid .before .descriptor .ensures) (unless-refused (c .before .answer .given .0 .0) _ _ (rw (c .before .answer .given .1) at (laid .lay-out .ensures .answer-is)))
+
+returns-2 : tie.Need-returns-2
+unfolding lookVertex
+returns-2 c =
+    let told = c .before in
+    let laid = told .before .before in
+    rw (← laid .before .descriptor .ensures, ← laid .lay-out .ensures .length-is)
+    (c .unit .ensures ∙ unless-accepted _ _ (rw (told .enum-told .given .1) at (laid .lay-out .ensures .answer-is)))
+
+pub look-vertex-spec : {M : Type 1} → statement M
+look-vertex-spec =
+    tie.close
+    (tie.spec
+    descriptor-requires
+    lay-out-requires
+    enum-known-answer
+    enum-told
+    unit-requires
+    returns
+    returns-2)

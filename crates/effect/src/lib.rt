@@ -1,0 +1,169 @@
+// What a command does: on the CP registers, the BP registers, the XF words, the vertex buffer and the open draw.
+use command::Command;
+use command::Draw;
+ghost use mathlib.Core.Path.{_≡_};
+ghost use Prim.Native.Nat.{_+_, _*_, _≤_};
+ghost use lib.ListN.{length};
+ghost use Rattle.command.specs.Command.{numbersOf};
+ghost use Rattle.effect.specs.Effect.{keptOf, loadedCp, loadedBp, loadedXf, storedXf, copied, drawAfter, openedBy, countedDown, masked, Applied};
+
+// What a CP register keeps of a number.
+fn kept(address: u8, number: u32) -> u32
+    ensures { λ r. ⌜ r ≡ keptOf address number ⌝ }
+{
+    if address < 0xA0 {
+        return number;
+    }
+    if address < 0xB0 {
+        return number % 0x400_0000;
+    }
+    number % 256
+}
+
+// A CP load.
+pub fn load_cp(cp: &mut [u32; 60], address: u8, number: u32)
+    ensures { λ _. ⌜ now (cp .exit) ≡ loadedCp (now (cp .entry)) address number ⌝ }
+{
+    let at = command::places::cp_place(address);
+    let new = kept(address, number);
+    if at < command::places::COUNT {
+        cp[at] = new;
+    }
+}
+
+// Old outside the mask, number inside.
+pub fn replace_bits(old: u32, mask: u32, number: u32) -> u32
+    ensures { λ r. ⌜ r ≡ masked old mask number ⌝ }
+{
+    (old & (0xFF_FFFF ^ mask)) | (number & mask)
+}
+
+// A BP load, by the mask in register FE, which it then sets to FFFFFF unless it was a load of FE.
+pub fn load_bp(bp: &mut [u32; 256], register: u8, number: u32)
+    ensures { λ _. ⌜ now (bp .exit) ≡ loadedBp (now (bp .entry)) register number ⌝ }
+{
+    let mask = bp[0xFE];
+    let at = register as usize;
+    let old = bp[at];
+    bp[at] = replace_bits(old, mask, number);
+    if register != 0xFE {
+        bp[0xFE] = 0xFF_FFFF;
+    }
+}
+
+// The words of an XF load, from its unit's bytes.
+fn store_xf(xf: &mut [u32], bytes: &[u8], address: usize, words: usize)
+    requires { ⌜ (5 + 4 * words ≤ length (now bytes)) × ((address + words ≤ length (now xf)) × (words ≤ 255)) ⌝ }
+    ensures { λ _. ⌜ now (xf .exit) ≡ storedXf (now (xf .entry)) (now (bytes .entry)) address words ⌝ }
+{
+    let mut i: usize = 0;
+    while i < words {
+        let at = 5 + 4 * i;
+        let a = bytes[at];
+        let b = bytes[at + 1];
+        let c = bytes[at + 2];
+        let d = bytes[at + 3];
+        xf[address + i] = octets::word(a, b, c, d);
+        i += 1;
+    }
+}
+
+// An XF load; nothing where the unit or the memory is too short for its words.
+pub fn load_xf(xf: &mut [u32], bytes: &[u8], words: u8, address: u16)
+    ensures { λ _. ⌜ now (xf .exit) ≡ loadedXf (now (xf .entry)) (now (bytes .entry)) words address ⌝ }
+{
+    let n = words as usize;
+    let at = address as usize;
+    if (5 + 4 * n <= bytes.len()) & (at + n <= xf.len()) {
+        store_xf(xf, bytes, at, n);
+    }
+}
+
+// A vertex: its bytes to the front of the buffer, nothing where that is too short.
+pub fn copy_vertex(buffer: &mut [u8], bytes: &[u8])
+    ensures { λ _. ⌜ now (buffer .exit) ≡ copied (now (bytes .entry)) (now (buffer .entry)) ⌝ }
+{
+    if bytes.len() <= buffer.len() {
+        bytes::copy(bytes, buffer);
+    }
+}
+
+// A draw with that many vertices left, none where there are none.
+fn draw_of(primitive: u8, format: u8, count: u16) -> Draw
+    ensures { λ r. ⌜ r ≡ openedBy primitive format count ⌝ }
+{
+    if count == 0 {
+        return Draw::Closed;
+    }
+    Draw::Open {
+        primitive,
+        format,
+        left: count,
+    }
+}
+
+// One vertex less.
+fn counted_down(draw: Draw) -> Draw
+    ensures { λ r. ⌜ r ≡ countedDown draw ⌝ }
+{
+    match draw {
+        Draw::Closed => Draw::Closed,
+        Draw::Open {
+            primitive,
+            format,
+            left,
+        } => {
+            if left == 0 {
+                return Draw::Closed;
+            }
+            draw_of(primitive, format, left - 1)
+        }
+    }
+}
+
+// The open draw after a command: a head opens one, a vertex counts it down, every other command leaves it.
+pub fn next_draw(command: Command, draw: Draw) -> Draw
+    ensures { λ r. ⌜ r ≡ drawAfter (numbersOf command) draw ⌝ }
+{
+    match command {
+        Command::DrawHead {
+            primitive,
+            format,
+            count,
+        } => draw_of(primitive, format, count),
+        Command::Vertex => counted_down(draw),
+        Command::NoOperation => draw,
+        Command::InvalidateCache => draw,
+        Command::Metrics => draw,
+        Command::LoadCp { .. } => draw,
+        Command::LoadXf { .. } => draw,
+        Command::LoadIndexed { .. } => draw,
+        Command::CallList { .. } => draw,
+        Command::LoadBp { .. } => draw,
+    }
+}
+
+// The effect of a command on what is lent, from its unit's bytes.
+pub fn apply(
+    command: Command,
+    bytes: &[u8],
+    cp: &mut [u32; 60],
+    bp: &mut [u32; 256],
+    xf: &mut [u32],
+    buffer: &mut [u8],
+)
+    ensures { λ _. ⌜ Applied (numbersOf command) (now (bytes .entry)) (now (cp .entry)) (now (bp .entry)) (now (xf .entry)) (now (buffer .entry)) (now (cp .exit)) (now (bp .exit)) (now (xf .exit)) (now (buffer .exit)) ⌝ }
+{
+    match command {
+        Command::LoadBp { register, number } => load_bp(bp, register, number),
+        Command::LoadXf { words, address } => load_xf(xf, bytes, words, address),
+        Command::LoadCp { address, number } => load_cp(cp, address, number),
+        Command::Vertex => copy_vertex(buffer, bytes),
+        Command::NoOperation => {}
+        Command::InvalidateCache => {}
+        Command::Metrics => {}
+        Command::LoadIndexed { .. } => {}
+        Command::CallList { .. } => {}
+        Command::DrawHead { .. } => {}
+    }
+}

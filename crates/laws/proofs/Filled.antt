@@ -1,0 +1,45 @@
+-- The list of a function's values: its length and elements, and an array that a loop fills with them.
+use mathlib.Core.Path.{_≡_, refl, sym, ap, _∙_, subst}
+use mathlib.Core.List.{List, [], _∷_, _++_}
+use mathlib.Core.Logic.{inl, inr}
+use Prim.Native.Nat.{ℕ, zero, suc, _+_, _<_}
+use native.Mathlib.Nat.{le-of-eq, eq-or-lt-of-le, le-of-suc-le-suc, not-suc-le-zero, add-zero}
+use native.Mathlib.Numerals.{add-one}
+use native.Mathlib.Omega.{arith}
+use lib.ListN.{length, take, set, getD, length-append, List·getD-append}
+use lib.Seq.{take-suc-set, take-all, getD-append-add}
+use Rattle.laws.specs.Values.{upTo}
+
+pub length-upTo : (f : ℕ → ℕ) (n : ℕ) → length (upTo f n) ≡ n
+unfolding upTo
+length-upTo f zero = refl
+length-upTo f (suc n) = omega (arith, length-append (upTo f n) (f n ∷ []), length-upTo f n)
+
+pub getD-upTo : (f : ℕ → ℕ) (n k : ℕ) → k < n → getD (upTo f n) k 0 ≡ f k
+unfolding upTo
+getD-upTo f zero k h = absurd (not-suc-le-zero h)
+getD-upTo f (suc n) k h = elim (eq-or-lt-of-le (le-of-suc-le-suc h)) [
+  | inl e ↦
+      ap (λ (x : ℕ). getD (upTo f n ++ (f n ∷ [])) x 0) (e ∙ sym (add-zero n) ∙ ap (λ (x : ℕ). x + 0) (sym (length-upTo f n)))
+      ∙ getD-append-add (upTo f n) (f n ∷ []) 0 0
+      ∙ ap f (sym e)
+  | inr l ↦ List·getD-append (upTo f n) (f n ∷ []) 0 k (subst (λ (x : ℕ). k < x) (sym (length-upTo f n)) l) ∙ getD-upTo f n k l
+]
+
+-- nothing is filled yet
+pub fill-none : (f : ℕ → ℕ) (l : List ℕ) → take 0 l ≡ upTo f 0
+unfolding upTo
+fill-none f [] = refl
+fill-none f (x ∷ l) = refl
+
+-- one more element
+pub fill-next : (f : ℕ → ℕ) (l : List ℕ) (i v : ℕ) → i < length l → take i l ≡ upTo f i → v ≡ f i
+    → take (i + 1) (set l i v) ≡ upTo f (i + 1)
+unfolding upTo
+fill-next f l i v h e q =
+    rw add-one (take-suc-set l i v h ∙ ap (λ (x : List ℕ). x ++ (v ∷ [])) e ∙ ap (λ (x : ℕ). upTo f i ++ (x ∷ [])) q)
+
+-- all of them
+pub fill-all : (f : ℕ → ℕ) (l : List ℕ) (n i : ℕ) → length l ≡ n → i ≡ n → take i l ≡ upTo f i → l ≡ upTo f n
+fill-all f l n i h e t =
+    sym (take-all n l (le-of-eq h)) ∙ subst (λ (k : ℕ). take k l ≡ upTo f k) e t

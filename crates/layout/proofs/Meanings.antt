@@ -1,0 +1,66 @@
+-- A layout's answer is known from its meaning; and what the records of a filled and of an emptied layout say of the whole.
+use mathlib.Core.Path.{_≡_, refl, sym, ap, _∙_}
+use mathlib.Core.Bool.{true, false}
+use mathlib.Core.List.{List, [], _∷_}
+use Prim.Native.Nat.{ℕ}
+use native.Mathlib.Omega.{arith}
+use borrow.Author.Tests.{eq-eqb, ne-eqb}
+use Rattle.refusal.specs.Number.{number}
+use Rattle.refusal.specs.declared.Reason.{Reason}
+use Rattle.refusal.proofs.Injective.{number-injective}
+use Rattle.refusal.proofs.Positive.{number-some}
+use Rattle.layout.specs.declared.Descriptor.{Descriptor}
+use Rattle.layout.specs.declared.Layout.{Layout}
+use Rattle.layout.specs.declared.LayoutAnswer.{LayoutAnswer}
+use Rattle.layout.specs.declared.LayoutAnswer.the-variants.{Accepted, Refused}
+use Rattle.layout.specs.Fields.{modeOf}
+use Rattle.layout.specs.Sizes.{anyUnknown}
+use Rattle.layout.specs.Answers.{meaning, refusalOf, lengthOf, Laid, Filled, Emptied}
+
+-- ---- which refusal it is
+pub refused-position : (d : Descriptor) → modeOf d 9 ≡ 0 → refusalOf d ≡ 9
+unfolding refusalOf
+refused-position d e = rw (eq-eqb (modeOf d 9) 0 e)
+
+pub refused-format : (d : Descriptor) → (modeOf d 9 ≡ 0 → ⊥) → anyUnknown d 21 ≡ true → refusalOf d ≡ 10
+unfolding refusalOf
+refused-format d h e = rw (ne-eqb (modeOf d 9) 0 h, e)
+
+pub refused-not : (d : Descriptor) → (modeOf d 9 ≡ 0 → ⊥) → anyUnknown d 21 ≡ false → refusalOf d ≡ 0
+unfolding refusalOf
+refused-not d h e = rw (ne-eqb (modeOf d 9) 0 h, e)
+
+-- ---- the whole layout
+pub laid-filled : (d : Descriptor) (r : Layout) → refusalOf d ≡ 0 → Filled d r → Laid d r
+unfolding lengthOf
+laid-filled d r e f = record {
+  answer-is = f .answer-is ∙ ap (λ (n : ℕ). n ∷ []) (sym e);
+  length-is = rw (eq-eqb (refusalOf d) 0 e) (f .length-is);
+  sizes-is = rw (eq-eqb (refusalOf d) 0 e) (f .sizes-is);
+  offsets-is = rw (eq-eqb (refusalOf d) 0 e) (f .offsets-is);
+}
+
+pub laid-emptied : (d : Descriptor) (reason : Reason) (r : Layout) → refusalOf d ≡ number reason → (number reason ≡ 0 → ⊥)
+    → Emptied reason r → Laid d r
+unfolding lengthOf
+laid-emptied d reason r e z f = record {
+  answer-is = f .answer-is ∙ ap (λ (n : ℕ). n ∷ []) (sym e);
+  length-is = rw (ne-eqb (refusalOf d) 0 no) (f .length-is);
+  sizes-is = rw (ne-eqb (refusalOf d) 0 no) (f .sizes-is);
+  offsets-is = rw (ne-eqb (refusalOf d) 0 no) (f .offsets-is);
+}
+  where
+    no : refusalOf d ≡ 0 → ⊥
+    no h = z (sym e ∙ h)
+
+-- ---- the meaning determines the answer
+head : List ℕ → ℕ
+head [] = 0
+head (x ∷ l) = x
+
+pub meaning-injective : (a b : LayoutAnswer) → meaning a ≡ meaning b → a ≡ b
+unfolding head
+meaning-injective Accepted Accepted e = refl
+meaning-injective Accepted (Refused r) e = absurd (omega (arith, number-some r, ap head e))
+meaning-injective (Refused r) Accepted e = absurd (omega (arith, number-some r, ap head e))
+meaning-injective (Refused r) (Refused s) e = ap Refused (number-injective r s (ap head e))

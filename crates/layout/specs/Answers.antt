@@ -1,0 +1,54 @@
+-- What a layout is: refused by 9, then 10, or its length, sizes and sums.
+use mathlib.Core.Path.{_≡_}
+use mathlib.Core.Bool.{Bool, cond}
+use mathlib.Core.List.{List, [], _∷_}
+use Prim.Native.Nat.{ℕ}
+use lib.Dec.{eqb}
+use lib.ListN.{replicate}
+use Rattle.laws.specs.Values.{upTo}
+use Rattle.refusal.specs.Number.{number}
+use Rattle.refusal.specs.declared.Reason.{Reason}
+use Rattle.layout.specs.declared.Descriptor.{Descriptor}
+use Rattle.layout.specs.declared.Layout.{Layout}
+use Rattle.layout.specs.declared.LayoutAnswer.{LayoutAnswer}
+use Rattle.layout.specs.declared.LayoutAnswer.the-variants.{Accepted, Refused}
+use Rattle.layout.specs.Fields.{modeOf}
+use Rattle.layout.specs.Sizes.{sizeOf, offsetOf, anyUnknown}
+
+-- the numbers of a layout's answer: the refusal's alone, or 0
+abbrev pub meaning : LayoutAnswer → List ℕ
+meaning Accepted = 0 ∷ []
+meaning (Refused r) = number r ∷ []
+
+-- "position absent" is 9, then an unknown format 10; 0 where neither is found
+unfoldable pub refusalOf : Descriptor → ℕ
+refusalOf d = cond (eqb (modeOf d 9) 0) 9 (cond (anyUnknown d 21) 10 0)
+
+-- no refusal
+abbrev pub acceptedOf : Descriptor → Bool
+acceptedOf d = eqb (refusalOf d) 0
+
+-- "A layout gives this length"; 0 where it is refused
+unfoldable pub lengthOf : Descriptor → ℕ
+lengthOf d = cond (acceptedOf d) (offsetOf d 21) 0
+
+-- what `lay_out` promises: its answer, and its numbers, all 0 where it is refused
+pub record Laid (d : Descriptor) (r : Layout) : Type 0 where
+  pub answer-is : meaning (r .answer) ≡ refusalOf d ∷ []
+  pub length-is : r .length ≡ lengthOf d
+  pub sizes-is : r .sizes ≡ cond (acceptedOf d) (upTo (sizeOf d) 21) (replicate 21 0)
+  pub offsets-is : r .offsets ≡ cond (acceptedOf d) (upTo (offsetOf d) 21) (replicate 21 0)
+
+-- a layout as it is where nothing is refused
+pub record Filled (d : Descriptor) (r : Layout) : Type 0 where
+  pub answer-is : meaning (r .answer) ≡ 0 ∷ []
+  pub length-is : r .length ≡ offsetOf d 21
+  pub sizes-is : r .sizes ≡ upTo (sizeOf d) 21
+  pub offsets-is : r .offsets ≡ upTo (offsetOf d) 21
+
+-- and as it is where it is refused for a reason
+pub record Emptied (reason : Reason) (r : Layout) : Type 0 where
+  pub answer-is : meaning (r .answer) ≡ number reason ∷ []
+  pub length-is : r .length ≡ 0
+  pub sizes-is : r .sizes ≡ replicate 21 0
+  pub offsets-is : r .offsets ≡ replicate 21 0

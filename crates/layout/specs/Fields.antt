@@ -1,0 +1,74 @@
+-- "VCD group 0: bits 0 to 8 matrices, then two bits each from 9 .. VAT fields stand as in 004's table": what a descriptor says of
+-- attribute k.
+-- The attributes in document 01's order: 0 the position matrix, 1 to 8 texture matrices, 9 position, 10 normal, 11 and 12 colours, 13 to
+-- 20
+-- textures.
+use mathlib.Core.Bool.{cond, _&&_}
+use mathlib.Core.List.{List, [], _∷_}
+use Prim.Native.Nat.{ℕ, _+_, _/_, _%_, _^_}
+use lib.Dec.{ltb, eqb}
+use lib.ListN.{getD}
+use Rattle.layout.specs.declared.Descriptor.{Descriptor}
+use Rattle.layout.specs.declared.Field.{Field}
+
+-- the five words of a descriptor
+abbrev pub words : Descriptor → List ℕ
+words d = d .vcd0 ∷ d .vcd1 ∷ d .vat0 ∷ d .vat1 ∷ d .vat2 ∷ []
+
+-- the bits from a place on, modulo q: bit b of VCD group g stands at 32 * g + b, of VAT group g at 64 + 32 * g + b; past the last word
+-- all is 0
+unfoldable pub bitsAt : Descriptor → ℕ → ℕ → ℕ
+bitsAt d place q = getD (words d) (place / 32) 0 / 2 ^ (place % 32) % q
+
+-- the place past the last bit, for a field that an attribute has not
+abbrev pub none : ℕ
+none = 160
+
+-- the place of attribute k in a table, and none above 20
+abbrev pub placeIn : List ℕ → ℕ → ℕ
+placeIn table k = cond (ltb k 21) (getD table k 0) none
+
+-- 004's table of the VCD, attribute by attribute
+unfoldable pub modes : List ℕ
+modes = 0 ∷ 1 ∷ 2 ∷ 3 ∷ 4 ∷ 5 ∷ 6 ∷ 7 ∷ 8 ∷ 9 ∷ 11 ∷ 13 ∷ 15 ∷ 32 ∷ 34 ∷ 36 ∷ 38 ∷ 40 ∷ 42 ∷ 44 ∷ 46 ∷ []
+
+-- 004's table of the VAT: count bits. A matrix has none of its fields
+unfoldable pub counts : List ℕ
+counts = 160 ∷ 160 ∷ 160 ∷ 160 ∷ 160 ∷ 160 ∷ 160 ∷ 160 ∷ 160 ∷ 64 ∷ 73 ∷ 77 ∷ 81 ∷ 85 ∷ 96 ∷ 105 ∷ 114 ∷ 123 ∷ 133 ∷ 142 ∷ 151 ∷ []
+
+-- formats, of three bits
+unfoldable pub formats : List ℕ
+formats = 160 ∷ 160 ∷ 160 ∷ 160 ∷ 160 ∷ 160 ∷ 160 ∷ 160 ∷ 160 ∷ 65 ∷ 74 ∷ 78 ∷ 82 ∷ 86 ∷ 97 ∷ 106 ∷ 115 ∷ 124 ∷ 134 ∷ 143 ∷ 152 ∷ []
+
+-- shifts, of five bits; normals and colours have none, and texture 4's stands in group 2 apart from its format
+unfoldable pub shifts : List ℕ
+shifts = 160 ∷ 160 ∷ 160 ∷ 160 ∷ 160 ∷ 160 ∷ 160 ∷ 160 ∷ 160 ∷ 68 ∷ 160 ∷ 160 ∷ 160 ∷ 89 ∷ 100 ∷ 109 ∷ 118 ∷ 128 ∷ 137 ∷ 146 ∷ 155 ∷ []
+
+-- "0 absent, 1 direct, 2 and 3 an index of 8 or 16 bits"; a matrix has one bit
+unfoldable pub modeOf : Descriptor → ℕ → ℕ
+modeOf d k = cond (ltb k 9) (bitsAt d (placeIn modes k) 2) (bitsAt d (placeIn modes k) 4)
+
+-- the count bit
+unfoldable pub countOf : Descriptor → ℕ → ℕ
+countOf d k = bitsAt d (placeIn counts k) 2
+
+-- the component or colour format
+unfoldable pub formatOf : Descriptor → ℕ → ℕ
+formatOf d k = bitsAt d (placeIn formats k) 8
+
+-- "The shift is 0 for 8-bit components where group 0 bit 30 is clear, and for all normals": of attribute, format, that bit and the VAT's
+-- shift
+unfoldable pub fractionBits : ℕ → ℕ → ℕ → ℕ → ℕ
+fractionBits k format bit30 shift = cond (eqb k 10) 0 (cond (ltb format 2 && eqb bit30 0) 0 shift)
+
+-- the fraction bits of attribute k's components
+unfoldable pub fractionOf : Descriptor → ℕ → ℕ
+fractionOf d k = fractionBits k (formatOf d k) (bitsAt d (64 + 30) 2) (bitsAt d (placeIn shifts k) 32)
+
+-- "An indexed normal has three indices exactly if both its count bit and group 0 bit 31 are set"
+unfoldable pub indicesOf : Descriptor → ℕ → ℕ
+indicesOf d k = cond (eqb k 10 && (eqb (countOf d 10) 1 && eqb (bitsAt d (64 + 31) 2) 1)) 3 1
+
+-- all of it
+abbrev pub fieldOf : Descriptor → ℕ → Field
+fieldOf d k = record { mode = modeOf d k; count = countOf d k; format = formatOf d k; fraction = fractionOf d k; indices = indicesOf d k }
