@@ -2,3 +2,5 @@ pub mod Table
 pub mod Cases
 pub mod Remainder
 pub mod Filled
+pub mod Front
+pub mod Tests

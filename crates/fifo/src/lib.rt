@@ -1,0 +1,90 @@
+// What one port owns of the command stream: the ring window, its hardware registers, counting and feeding, and a cursor that reads what
+// is pending.
+mod access;
+mod feeding;
+mod queue;
+mod rules;
+
+pub use access::read_register;
+pub use access::write_register;
+pub use feeding::feed;
+pub use queue::close;
+pub use queue::copy;
+pub use queue::open;
+pub use queue::peek;
+pub use queue::skip;
+pub use queue::straight;
+use refusal::Reason;
+pub use rules::count;
+pub use rules::ready;
+pub use rules::valid;
+ghost use mathlib.Core.Path.{_≡_};
+ghost use Rattle.fifo.specs.Window.{freshFifo};
+
+// The most bytes of a ring: "Size is 256 to 65,536".
+pub const SIZE_LIMIT: u32 = 65536;
+
+// The ring window: the hardware registers 020 to 03A, but for the count. The end is exclusive.
+pub struct Window {
+    pub start: u32,
+    pub end: u32,
+    pub high: u32,
+    pub low: u32,
+    pub write: u32,
+    pub read: u32,
+}
+
+// What one port owns: the window and the control word.
+pub struct Fifo {
+    pub window: Window,
+    pub control: u16,
+}
+
+// The bytes pending, or why they are not counted.
+pub enum Counted {
+    Count(u32),
+    Refused(Reason),
+}
+
+// A hardware register's value, or why it is not read.
+pub enum Reading {
+    Value(u16),
+    Refused(Reason),
+}
+
+// Whether a call that changes the fifo was accepted.
+pub enum Answer {
+    Accepted,
+    Refused(Reason),
+}
+
+// The fifo after a call, as it was before where the call is refused, and the answer.
+pub struct Changed {
+    pub fifo: Fifo,
+    pub answer: Answer,
+}
+
+// Where the pending bytes stand in the ring: the place of the first, how many are left, and the ring's size.
+pub struct Cursor {
+    pub at: u32,
+    pub left: u32,
+    pub size: u32,
+}
+
+// "Fresh state: control 0010 (hex), .. every other register zero".
+pub fn fresh() -> Fifo
+    ensures { λ r. ⌜ r ≡ freshFifo ⌝ }
+{
+    let window = Window {
+        start: 0,
+        end: 0,
+        high: 0,
+        low: 0,
+        write: 0,
+        read: 0,
+    };
+    Fifo {
+        window,
+        control: 0x10,
+    }
+}

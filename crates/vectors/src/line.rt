@@ -1,0 +1,49 @@
+// Lines of output.
+use libc::STDOUT_FILENO;
+ghost use Prim.Native.Nat.{_≤_};
+
+// The place of the first digit that is not a leading zero, of ten.
+fn first_digit(n: u32) -> usize
+    ensures { λ r. ⌜ r ≤ 9 ⌝ }
+{
+    if n < 10 {
+        return 9;
+    }
+    if n < 100 {
+        return 8;
+    }
+    if n < 1000 {
+        return 7;
+    }
+    if n < 10_000 {
+        return 6;
+    }
+    if n < 100_000 {
+        return 5;
+    }
+    0
+}
+
+fn digit(n: u32) -> u8 {
+    48 + (n % 10) as u8
+}
+
+// A vector's name and its result in decimal.
+pub fn write(name: &[u8], n: u32) {
+    let digits = [
+        digit(n / 1_000_000_000),
+        digit(n / 100_000_000),
+        digit(n / 10_000_000),
+        digit(n / 1_000_000),
+        digit(n / 100_000),
+        digit(n / 10_000),
+        digit(n / 1000),
+        digit(n / 100),
+        digit(n / 10),
+        digit(n),
+    ];
+    let first = first_digit(n);
+    io::write_all(STDOUT_FILENO, name);
+    io::write_all(STDOUT_FILENO, &digits[first..]);
+    io::write_all(STDOUT_FILENO, b"\n");
+}

@@ -1,0 +1,8 @@
+// Document 01's numbers that are run and not proved: a line for each, its name and what came out. A module for each crate.
+mod line;
+mod ring;
+
+fn main() {
+    ring::starred_count();
+    ring::filled();
+}
