@@ -4,6 +4,7 @@ use mathlib.Core.Bool.{true, false}
 use mathlib.Core.List.{List, [], _∷_}
 use Prim.Native.Nat.{ℕ}
 use native.Mathlib.Omega.{arith}
+use lib.ListN.{getD}
 use borrow.Author.Tests.{eq-eqb, ne-eqb}
 use Rattle.refusal.specs.Number.{number}
 use Rattle.refusal.specs.declared.Reason.{Reason}
@@ -54,13 +55,8 @@ laid-emptied d reason r e z f = record {
     no h = z (sym e ∙ h)
 
 -- ---- the meaning determines the answer
-head : List ℕ → ℕ
-head [] = 0
-head (x ∷ l) = x
-
 pub meaning-injective : (a b : LayoutAnswer) → meaning a ≡ meaning b → a ≡ b
-unfolding head
 meaning-injective Accepted Accepted e = refl
-meaning-injective Accepted (Refused r) e = absurd (omega (arith, number-some r, ap head e))
-meaning-injective (Refused r) Accepted e = absurd (omega (arith, number-some r, ap head e))
-meaning-injective (Refused r) (Refused s) e = ap Refused (number-injective r s (ap head e))
+meaning-injective Accepted (Refused r) e = absurd (omega (arith, number-some r, ap (λ (l : List ℕ). getD l 0 0) e))
+meaning-injective (Refused r) Accepted e = absurd (omega (arith, number-some r, ap (λ (l : List ℕ). getD l 0 0) e))
+meaning-injective (Refused r) (Refused s) e = ap Refused (number-injective r s (ap (λ (l : List ℕ). getD l 0 0) e))

@@ -5,7 +5,7 @@ use mathlib.Core.List.{List, [], _∷_}
 use Prim.Native.Nat.{ℕ, _<_, _≤_}
 use native.Mathlib.Omega.{arith}
 use lib.Dec.{eqb}
-use lib.ListN.{length}
+use lib.ListN.{length, getD}
 use borrow.Author.Tests.{lt-ltb, le-ltb, eq-eqb, ne-eqb, eqb-true}
 use Rattle.layout.specs.declared.Descriptor.{Descriptor}
 use Rattle.layout.specs.Sizes.{offsetOf}
@@ -45,48 +45,36 @@ pub unless-accepted : (n : ℕ) (l : List ℕ) → n ≡ 0 → 0 ∷ l ≡ unles
 unless-accepted n l e = rw (eq-eqb n 0 e)
 
 -- ---- from the answer of the layout
-head : List ℕ → ℕ
-head [] = 0
-head (x ∷ l) = x
-
 -- a layout that is refused refuses the attribute, for the same reason
 pub layout-refused : (d : Descriptor) (k : ℕ) (l rest : List ℕ) {a : LayoutAnswer} {reason : Reason} → a ≡ layout.Refused reason
     → laying.meaning a ≡ refusalOf d ∷ [] → number reason ∷ [] ≡ unless (refusalAt d k l) rest
-unfolding head
 layout-refused d k l rest {a} {reason} p e =
-    let n : number reason ≡ refusalOf d = ap head (sym (ap laying.meaning p) ∙ e) in
+    let n : number reason ≡ refusalOf d = ap (λ (l : List ℕ). getD l 0 0) (sym (ap laying.meaning p) ∙ e) in
     let z : refusalOf d ≡ 0 → ⊥ = λ h. omega (arith, number-some reason) in
     unless-refused (refusalAt d k l) (number reason) rest (refused-layout d k l z ∙ sym n) (λ h. z (sym n ∙ h))
 
 -- one that is accepted has no refusal
 pub layout-accepted : (d : Descriptor) {a : LayoutAnswer} → a ≡ layout.Accepted → laying.meaning a ≡ refusalOf d ∷ [] → refusalOf d ≡ 0
-unfolding head
-layout-accepted d p e = sym (ap head (sym (ap laying.meaning p) ∙ e))
+layout-accepted d p e = sym (ap (λ (l : List ℕ). getD l 0 0) (sym (ap laying.meaning p) ∙ e))
 
 -- ---- from the place of an attribute
-second : List ℕ → ℕ
-second [] = 0
-second (x ∷ l) = head l
-
-head-unless : (n : ℕ) (l : List ℕ) → head (unless n l) ≡ n
-unfolding head
+-- the first number is the refusal, or 0
+head-unless : (n : ℕ) (l : List ℕ) → getD (unless n l) 0 0 ≡ n
 head-unless n l = go (eqb n 0) refl
   where
-    go : (b : Bool) → eqb n 0 ≡ b → head (cond b (0 ∷ l) (n ∷ [])) ≡ n
+    go : (b : Bool) → eqb n 0 ≡ b → getD (cond b (0 ∷ l) (n ∷ [])) 0 0 ≡ n
     go true e = sym (eqb-true n 0 e)
     go false e = refl
 
 -- a place that is refused refuses the rest, for the same reason
 pub place-refused : (n : ℕ) (l rest : List ℕ) {p : Place} {reason : Reason} → p ≡ place.Refused reason → located p ≡ unless n l
     → (n ≡ 0 → ⊥) × (number reason ∷ [] ≡ unless n rest)
-unfolding head
 place-refused n l rest {p} {reason} e h =
-    let same : n ≡ number reason = sym (head-unless n l) ∙ ap head (sym h ∙ ap located e) in
+    let same : n ≡ number reason = sym (head-unless n l) ∙ ap (λ (l : List ℕ). getD l 0 0) (sym h ∙ ap located e) in
     ((λ z. omega (arith, number-some reason)), unless-refused n (number reason) rest same (λ z. omega (arith, number-some reason)))
 
 -- a place that is found is the attribute's, and nothing is refused
 pub place-found : (n o : ℕ) {p : Place} {at : ℕ} → p ≡ place.At at → located p ≡ unless n (o ∷ []) → (n ≡ 0) × (at ≡ o)
-unfolding head second
 place-found n o {p} {at} e h =
-    let zero-is : n ≡ 0 = sym (head-unless n (o ∷ [])) ∙ ap head (sym h ∙ ap located e) in
-    (zero-is, ap second (sym (ap located e) ∙ h ∙ sym (unless-accepted n (o ∷ []) zero-is)))
+    let zero-is : n ≡ 0 = sym (head-unless n (o ∷ [])) ∙ ap (λ (l : List ℕ). getD l 0 0) (sym h ∙ ap located e) in
+    (zero-is, ap (λ (l : List ℕ). getD l 1 0) (sym (ap located e) ∙ h ∙ sym (unless-accepted n (o ∷ []) zero-is)))

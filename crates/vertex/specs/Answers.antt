@@ -5,7 +5,7 @@ use mathlib.Core.List.{List, [], _∷_}
 use Prim.Native.Nat.{ℕ, _+_, _<_}
 use lib.Dec.{T, leb, ltb, eqb}
 use lib.ListN.{length, getD, replicate}
-use lib.Ieee.{Float, binary32, toBits, nanBits}
+use lib.Ieee.{Float, binary32, fits, toBits, nanBits}
 use Rattle.refusal.specs.Number.{number}
 use Rattle.component.specs.Single.{Exact}
 use Rattle.component.specs.Component.{integerOf}
@@ -107,3 +107,26 @@ pub record Decodes (d : Descriptor) (k : ℕ) (l : List ℕ) (r : Answer) : Type
 pub record RawIs (d : Descriptor) (k : ℕ) (l : List ℕ) (r : RawWords) : Type 0 where
   pub answer-is : rawMeaning (r .answer) ≡ unless (refusalAt d k l) (singlesOf d k ∷ [])
   pub words-is : r .words ≡ cond (eqb (refusalAt d k l) 0) (wordsOf l (offsetOf d k) (singlesOf d k)) (replicate 9 0)
+
+-- three floats of single precision
+pub record SingleTriple (t : Triple) : Type 0 where
+  pub of-x : T (fits binary32 (t .x))
+  pub of-y : T (fits binary32 (t .y))
+  pub of-z : T (fits binary32 (t .z))
+
+-- all floats of an attribute are of single precision, as those that a program holds are
+abbrev pub SingleAttribute : Attribute → Type 0
+SingleAttribute Absent = Unit {0}
+SingleAttribute (Matrix n) = Unit {0}
+SingleAttribute (Index n) = Unit {0}
+SingleAttribute (Indices a b c) = Unit {0}
+SingleAttribute (Colour n) = Unit {0}
+SingleAttribute (Position t) = SingleTriple t
+SingleAttribute (Texture a b) = T (fits binary32 a) × T (fits binary32 b)
+SingleAttribute (Normal t) = SingleTriple t
+SingleAttribute (Frame u v w) = SingleTriple u × SingleTriple v × SingleTriple w
+
+-- and of an answer
+abbrev pub SingleAnswer : Answer → Type 0
+SingleAnswer (Done a) = SingleAttribute a
+SingleAnswer (answer.Refused r) = Unit {0}

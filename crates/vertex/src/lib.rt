@@ -35,7 +35,7 @@ pub enum Answer {
 }
 
 // Where an attribute starts in a vertex.
-pub enum Place {
+enum Place {
     At(u8),
     Refused(Reason),
 }
@@ -158,7 +158,7 @@ fn decode_at(descriptor: Descriptor, k: usize, vertex: &[u8], at: u8) -> Attribu
 }
 
 // Where attribute k starts, or the reason why it is refused: 9, 10, then 19.
-pub fn locate(descriptor: Descriptor, k: usize, vertex: &[u8]) -> Place
+fn locate(descriptor: Descriptor, k: usize, vertex: &[u8]) -> Place
     ensures { λ r. ⌜ located r ≡ locationOf descriptor k (now (vertex .entry)) ⌝ }
 {
     let laid = layout::lay_out(descriptor);
