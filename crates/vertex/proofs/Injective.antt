@@ -1,6 +1,7 @@
--- The numbers of an answer determine it: each attribute is found again from its kind and values, as floats of single precision are from their bits.
+-- The numbers of an answer determine it: each attribute is found again from its kind and values, as floats of single precision are from
+-- their bits.
 use mathlib.Core.Path.{_≡_, refl, sym, ap, _∙_}
-use mathlib.Core.List.{List, [], _∷_}
+use mathlib.Core.List.{List, []}
 use Prim.Native.Nat.{ℕ, zero, suc}
 use native.Mathlib.Omega.{arith}
 use lib.Dec.{T}
@@ -57,7 +58,8 @@ found (Index n) h = refl
 found (Indices a b c) h = refl
 found (Colour n) h = refl
 found (Position t) h = ap Position (triple-again t h)
-found (Texture a b) h = ap (λ (x : Float). Texture x (single (toBits binary32 b))) (single-again a (h .0)) ∙ ap (λ (x : Float). Texture a x) (single-again b (h .1))
+found (Texture a b) h = ap (λ (x : Float). Texture x (single (toBits binary32 b))) (single-again a (h .0))
+    ∙ ap (λ (x : Float). Texture a x) (single-again b (h .1))
 found (Normal t) h = ap Normal (triple-again t h)
 found (Frame u v w) h =
     let p = triple-again u (h .0) in
