@@ -4,6 +4,10 @@ use mathlib.Core.Bool.{Bool, not}
 use Prim.Native.Nat.{ℕ, zero, suc, _%_, _^_, _<_, _≤_}
 use native.Mathlib.Nat.{mod-lt, lt-of-le-of-lt, mod-eq-of-lt}
 use native.Mathlib.Omega.{arith}
+use lib.IntN.{ℤ}
+use mir.Syntax.{w16}
+use mir.Val.{SFits, toZ, ofZ}
+use mir.ValLaws.{toZ-ofZ}
 use lib.Dec.{T, eqb, lit<}
 use lib.Ieee.{Float, nan, inf, fin, binary32, isNan, ofBits, toBits, nanBits}
 use lib.Ieee.Bits.{nanBits-is, toBits-ofBits}
@@ -67,15 +71,20 @@ decoded f raw s {r} e = record {
   none = λ h n. e ∙ component-single f raw s h ∙ nan-bits (patternOf f raw) n;
 }
 
--- a component of the integer format k
-pub of-integer : (f raw s : ℕ) {r : Float} (k : ℕ) → f ≡ k → k < 4 → Quotient (integerOf k raw) (s % 32) r → r ≡ componentOf f raw s
+-- a component of the integer format k, from its integer
+pub of-integer : (f raw s : ℕ) {r : Float} (k : ℕ) → f ≡ k → k < 4 → Quotient (integerOf k raw) (s % 32) r → Decoded f raw s r
 of-integer f raw s {r} k e l h =
-    subst (λ (x : ℕ). r ≡ componentOf x raw s) (sym e) (h .is ∙ sym (component-integer k raw s l))
+    subst (λ (x : ℕ). Decoded x raw s r) (sym e) (decoded k raw s (h .is ∙ sym (component-integer k raw s l)))
+
+-- the same from a signed number of 16 bits, as the code holds it
+pub of-signed : (f raw s : ℕ) {r : Float} (k : ℕ) (z : ℤ) → f ≡ k → k < 4 → SFits w16 z → z ≡ integerOf k raw
+    → Quotient (toZ w16 (ofZ w16 z)) (s % 32) r → Decoded f raw s r
+of-signed f raw s {r} k z e l fit p h = of-integer f raw s k e l (subst (λ (x : ℤ). Quotient x (s % 32) r) (toZ-ofZ w16 z fit ∙ p) h)
 
 -- a component in f32, of a raw number of 32 bits
-pub of-single : (f raw s : ℕ) {r : Float} → 4 ≤ f → raw < 4294967296 → r ≡ ofBits binary32 raw → r ≡ componentOf f raw s
+pub of-single : (f raw s : ℕ) {r : Float} → 4 ≤ f → raw < 4294967296 → r ≡ ofBits binary32 raw → Decoded f raw s r
 of-single f raw s {r} h l e =
-    e ∙ ap (λ (b : ℕ). ofBits binary32 b) (sym whole) ∙ sym (component-single f raw s h)
+    decoded f raw s (e ∙ ap (λ (b : ℕ). ofBits binary32 b) (sym whole) ∙ sym (component-single f raw s h))
   where
     whole : patternOf f raw ≡ raw
     whole = subst (λ (w : ℕ). raw % 256 ^ w ≡ raw) (sym (width-single f h)) (mod-eq-of-lt l)

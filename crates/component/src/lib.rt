@@ -34,12 +34,12 @@ fn unsigned(n: u16, s: u32) -> f32
     (n as f32) * power(s)
 }
 
-// n / 2^s, of a signed n.
-fn signed(n: i16, s: u32) -> f32
+// z / 2^s, of a signed z.
+fn signed(z: i16, s: u32) -> f32
     requires { ⌜ s < 32 ⌝ }
-    ensures { λ r. ⌜ Quotient n s r ⌝ }
+    ensures { λ r. ⌜ Quotient z s r ⌝ }
 {
-    (n as f32) * power(s)
+    (z as f32) * power(s)
 }
 
 // The signed number of a pattern, one of `patterns`.

@@ -55,7 +55,7 @@ unfolding indicesOf
 indices-some d k = cond-both (λ x. 1 ≤ x) (eqb k 10 && (eqb (countOf d 10) 1 && eqb (bitsAt d 95 2) 1)) (λ _. lit≤ tt) (λ _. lit≤ tt)
 
 -- ---- the largest sizes
-colour-le : (f : ℕ) → colourWidth f ≤ 4
+pub colour-le : (f : ℕ) → colourWidth f ≤ 4
 colour-le zero = lit≤ tt
 colour-le (suc zero) = lit≤ tt
 colour-le (suc (suc zero)) = lit≤ tt

@@ -32,23 +32,23 @@ acceptedOf d = eqb (refusalOf d) 0
 unfoldable pub lengthOf : Descriptor → ℕ
 lengthOf d = cond (acceptedOf d) (offsetOf d 21) 0
 
--- what `lay_out` promises: its answer, and its numbers, all 0 where it is refused
-pub record Laid (d : Descriptor) (r : Layout) : Type 0 where
-  pub answer-is : meaning (r .answer) ≡ refusalOf d ∷ []
-  pub length-is : r .length ≡ lengthOf d
-  pub sizes-is : r .sizes ≡ cond (acceptedOf d) (upTo (sizeOf d) 21) (replicate 21 0)
-  pub offsets-is : r .offsets ≡ cond (acceptedOf d) (upTo (offsetOf d) 21) (replicate 21 0)
+-- a layout by its four parts: the answer's number, the length, the sizes and the sums
+pub record LaidAs (refusal length : ℕ) (sizes offsets : List ℕ) (r : Layout) : Type 0 where
+  pub answer-is : meaning (r .answer) ≡ refusal ∷ []
+  pub length-is : r .length ≡ length
+  pub sizes-is : r .sizes ≡ sizes
+  pub offsets-is : r .offsets ≡ offsets
 
--- a layout as it is where nothing is refused
-pub record Filled (d : Descriptor) (r : Layout) : Type 0 where
-  pub answer-is : meaning (r .answer) ≡ 0 ∷ []
-  pub length-is : r .length ≡ offsetOf d 21
-  pub sizes-is : r .sizes ≡ upTo (sizeOf d) 21
-  pub offsets-is : r .offsets ≡ upTo (offsetOf d) 21
+-- where nothing is refused
+abbrev pub Filled : Descriptor → Layout → Type 0
+Filled d r = LaidAs 0 (offsetOf d 21) (upTo (sizeOf d) 21) (upTo (offsetOf d) 21) r
 
--- and as it is where it is refused for a reason
-pub record Emptied (reason : Reason) (r : Layout) : Type 0 where
-  pub answer-is : meaning (r .answer) ≡ number reason ∷ []
-  pub length-is : r .length ≡ 0
-  pub sizes-is : r .sizes ≡ replicate 21 0
-  pub offsets-is : r .offsets ≡ replicate 21 0
+-- where it is refused for a reason, with length 0 and zeros
+abbrev pub Emptied : Reason → Layout → Type 0
+Emptied reason r = LaidAs (number reason) 0 (replicate 21 0) (replicate 21 0) r
+
+-- what `lay_out` promises
+abbrev pub Laid : Descriptor → Layout → Type 0
+Laid d r =
+    LaidAs (refusalOf d) (lengthOf d) (cond (acceptedOf d) (upTo (sizeOf d) 21) (replicate 21 0))
+    (cond (acceptedOf d) (upTo (offsetOf d) 21) (replicate 21 0)) r

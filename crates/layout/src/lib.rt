@@ -231,13 +231,13 @@ fn fill(d: Descriptor) -> Layout
     let mut sizes = [0u8; 21];
     let mut offsets = [0u8; 21];
     let mut total: u32 = 0;
-    let mut i: usize = 0;
-    while i < 21 {
-        let n = size(d, i);
-        sizes[i] = n as u8;
-        offsets[i] = total as u8;
+    let mut k: usize = 0;
+    while k < 21 {
+        let n = size(d, k);
+        sizes[k] = n as u8;
+        offsets[k] = total as u8;
         total += n;
-        i += 1;
+        k += 1;
     }
     Layout {
         answer: LayoutAnswer::Accepted,

@@ -1,13 +1,7 @@
 -- Each arm is the integer or the pattern that the format says, and which single it is gives all that is promised: `decoded`.
-use mathlib.Core.Path.{_∙_, subst}
-use Prim.Native.Nat.{_%_}
 use native.Mathlib.Omega.{arith}
 use lib.Dec.{lit<}
-use lib.IntN.{ℤ}
-use mir.Syntax.{w16}
-use mir.ValLaws.{toZ-ofZ}
-use Rattle.component.specs.Component.{Quotient}
-use Rattle.component.proofs.Patterns.{decoded, of-integer, of-single}
+use Rattle.component.proofs.Patterns.{of-integer, of-signed, of-single}
 use borrow.Author.Needs.{needs}
 use Rattle.component.proofs.decode_component.Statement.{statement}
 use Rattle.component.proofs.decode_component.Tie as tie
@@ -42,40 +36,31 @@ of-bits-requires c κs = search needs
 returns : tie.Need-returns
 returns c =
     let a = c .before .before .args in
-    decoded (a .format) (a .raw) (a .shift) (of-integer (a .format) (a .raw) (a .shift) 0 (c .before .match .keys1) (lit< tt)
-    (c .unsigned .ensures))
+    of-integer (a .format) (a .raw) (a .shift) 0 (c .before .match .keys1) (lit< tt) (c .unsigned .ensures)
 
 returns-2 : tie.Need-returns-2
 returns-2 c =
-    let at = c .before .before in
-    let a = at .before .args in
+    let a = c .before .before .before .args in
     let n = c .before .twos in
-    decoded (a .format) (a .raw) (a .shift)
-    (of-integer (a .format) (a .raw) (a .shift) 1 (at .match .keys2) (lit< tt)
-    (subst (λ (z : ℤ). Quotient z (a .shift % 32) (c .signed .result)) (toZ-ofZ w16 (n .result) (search needs) ∙ n .ensures)
-    (c .signed .ensures)))
+    of-signed (a .format) (a .raw) (a .shift) 1 (n .result) (c .before .before .match .keys2) (lit< tt) (search needs) (n .ensures)
+    (c .signed .ensures)
 
 returns-3 : tie.Need-returns-3
 returns-3 c =
     let a = c .before .before .args in
-    decoded (a .format) (a .raw) (a .shift) (of-integer (a .format) (a .raw) (a .shift) 2 (c .before .match .keys3) (lit< tt)
-    (c .unsigned2 .ensures))
+    of-integer (a .format) (a .raw) (a .shift) 2 (c .before .match .keys3) (lit< tt) (c .unsigned2 .ensures)
 
 returns-4 : tie.Need-returns-4
 returns-4 c =
-    let at = c .before .before in
-    let a = at .before .args in
+    let a = c .before .before .before .args in
     let n = c .before .twos2 in
-    decoded (a .format) (a .raw) (a .shift)
-    (of-integer (a .format) (a .raw) (a .shift) 3 (at .match .keys4) (lit< tt)
-    (subst (λ (z : ℤ). Quotient z (a .shift % 32) (c .signed2 .result)) (toZ-ofZ w16 (n .result) (search needs) ∙ n .ensures)
-    (c .signed2 .ensures)))
+    of-signed (a .format) (a .raw) (a .shift) 3 (n .result) (c .before .before .match .keys4) (lit< tt) (search needs) (n .ensures)
+    (c .signed2 .ensures)
 
 returns-5 : tie.Need-returns-5
 returns-5 c =
     let a = c .before .before .args in
-    decoded (a .format) (a .raw) (a .shift)
-    (of-single (a .format) (a .raw) (a .shift) (omega (arith, c .before .match .rest)) (omega arith) (c .of-bits .ensures))
+    of-single (a .format) (a .raw) (a .shift) (omega (arith, c .before .match .rest)) (omega arith) (c .of-bits .ensures)
 
 pub decode-component-spec : {M : Type 1} → statement M
 decode-component-spec =

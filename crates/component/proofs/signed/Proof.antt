@@ -21,10 +21,10 @@ power-requires c κs = search needs
 returns : tie.Need-returns
 returns c =
     let start = c .before .before in
-    let n = start .args .n in
+    let n = start .args .z in
     subst (λ (z : ℤ). Quotient n (start .args .s) (mul binary32 (ofInt binary32 z) (c .power .result)))
-    (sym (toZ-ofZ w16 n (start .fits .n)))
-    (quotient n (start .args .s) (c .power .result) (omega (arith, size-lt n w16 (start .fits .n))) (start .pre) (c .power .ensures))
+    (sym (toZ-ofZ w16 n (start .fits .z)))
+    (quotient n (start .args .s) (c .power .result) (omega (arith, size-lt n w16 (start .fits .z))) (start .pre) (c .power .ensures))
 
 pub signed-spec : {M : Type 1} → statement M
 signed-spec = tie.close (tie.spec int-to-float-result power-requires returns)

@@ -1,0 +1,1 @@
+// No code: document 01's worked numbers, the starred ones, as one table. It stands in specs/Worked.antt.
