@@ -125,6 +125,14 @@ module _ (f : Fifo) (ring bytes : List ℕ) where
       (λ t. rw t (sym (append-nil (pending (f .window) ring))))
       (tested (accepted f ring bytes))
 
+  -- "bytes accepted .. equals the change in count"
+  pub count-after : countOf (fifoAfter f ring bytes .window) ≡ countOf (f .window) + length (bytesAccepted f ring bytes)
+  count-after =
+      sym (length-pending (fifoAfter f ring bytes .window) (ringAfter f ring bytes)) ∙
+      ap length pending-after ∙
+      length-append (pending (f .window) ring) (bytesAccepted f ring bytes) ∙
+      ap (λ (n : ℕ). n + length (bytesAccepted f ring bytes)) (length-pending (f .window) ring)
+
   pub ready-after : Ready f (length ring) → Ready (fifoAfter f ring bytes) (length (ringAfter f ring bytes))
   unfolding fifoAfter ringAfter
   ready-after r =

@@ -1,5 +1,6 @@
 pub mod WindowLaws
 pub mod RegisterLaws
+pub mod ReadBack
 pub mod Meaning
 pub mod Moves
 pub mod Pending

@@ -1,11 +1,13 @@
 -- The queue: its length is the count, and consuming drops from its front.
 use Prim.Native.Nat.{ℕ, _+_, _-_, _%_, _≤_, _<_}
-use mathlib.Core.Path.{_≡_, sym, ap, _∙_}
+use mathlib.Core.Path.{_≡_, sym, ap, subst, _∙_}
+use mathlib.Core.Logic.{⊎-elim}
 use mathlib.Core.List.{List}
 use native.Mathlib.Nat.{mod-add-mod, add-sub-cancel-left}
 use native.Mathlib.Omega.{arith}
 use lib.ListN.{length, getD, drop, length-drop, List·getD-eq-default}
 use lib.Seq.{ext-getD, getD-drop}
+use Rattle.laws.proofs.Cases.{order}
 use Rattle.laws.proofs.Filled.{length-upTo, getD-upTo}
 use Rattle.fifo.specs.declared.Window.{Window}
 use Rattle.fifo.specs.declared.Fifo.{Fifo}
@@ -51,3 +53,12 @@ pending-consume f v n h ring =
     pending-at w' ring k (omega arith) ∙
     ap (λ (x : ℕ). getD ring x 0) (read-after f n k) ∙
     sym (getD-drop n (pending w ring) k 0 ∙ pending-at w ring (n + k) (omega arith)))
+
+-- what holds of 0 and of every place of the ring, as that it is a byte, holds of every pending one
+pub pending-each : (P : ℕ → Type 0) (w : Window) (ring : List ℕ) → P 0 → ((j : ℕ) → P (getD ring j 0)) → (k : ℕ)
+    → P (getD (pending w ring) k 0)
+pending-each P w ring z each k =
+    ⊎-elim
+    (λ h. subst P (sym (pending-at w ring k h)) (each (placeAfter w (w .read) k)))
+    (λ h. subst P (sym (pending-past w ring k h)) z)
+    (order k (countOf w))

@@ -12,6 +12,7 @@ use Rattle.fifo.specs.Registers.{wordAt, listed, computed, readable, wri
 
 -- an offset of a word: its place is one of the seven, and the count's place only where the offset is the count's
 pub record WordOffset (o : ℕ) : Type 0 where
+  pub even : o % 2 ≡ 0
   pub place : wordAt o < 7
   pub counted : wordAt o ≡ 4 → computed o ≡ true
 
@@ -33,7 +34,7 @@ word-offset o e l =
     (λ h. omega (arith, leb-true o 4 h))
     (λ h. leb-true o 0x3A (and-right (leb 0x20 o) (leb o 0x3A) h))
     (or-cases (leb o 4) (leb 0x20 o && leb o 0x3A) (and-right (eqb (o % 2) 0) rest e)) in
-    record { place = omega arith; counted = counted-at o even l }
+    record { even = even; place = omega arith; counted = counted-at o even l }
 
 pub readable-word : (o : ℕ) → readable o ≡ true → 0x20 ≤ o → WordOffset o
 unfolding readable

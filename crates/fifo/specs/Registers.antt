@@ -27,11 +27,11 @@ isHigh o = eqb (o / 2 % 2) 1
 
 -- the high or the low half of a word
 unfoldable pub halfOf : Bool → ℕ → ℕ
-halfOf high x = cond high (x / 65536) (x % 65536)
+halfOf high x = cond high (x / 0x10000) (x % 0x10000)
 
 -- "Each half takes effect at once": a word with one half replaced
 unfoldable pub withHalf : Bool → ℕ → ℕ → ℕ
-withHalf high x v = cond high (v * 65536 + x % 65536) (x / 65536 * 65536 + v)
+withHalf high x v = cond high (v * 0x10000 + x % 0x10000) (x / 0x10000 * 0x10000 + v)
 
 -- refusal 17, "hardware offset odd or not listed": even, and 000, 002, 004 or from 020 to 03A
 unfoldable pub listed : ℕ → Bool

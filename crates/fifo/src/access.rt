@@ -79,9 +79,9 @@ fn half(high: bool, word: u32) -> u16
     ensures { λ r. ⌜ r ≡ halfOf high word ⌝ }
 {
     if high {
-        (word / 65536) as u16
+        (word / 0x10000) as u16
     } else {
-        (word % 65536) as u16
+        (word % 0x10000) as u16
     }
 }
 
@@ -90,9 +90,9 @@ fn with_half(high: bool, word: u32, value: u16) -> u32
     ensures { λ r. ⌜ r ≡ withHalf high word value ⌝ }
 {
     if high {
-        value as u32 * 65536 + word % 65536
+        value as u32 * 0x10000 + word % 0x10000
     } else {
-        word / 65536 * 65536 + value as u32
+        word / 0x10000 * 0x10000 + value as u32
     }
 }
 

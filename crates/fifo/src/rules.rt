@@ -51,9 +51,9 @@ pub(crate) fn gap(window: Window) -> u32
     let write = window.write;
     let read = window.read;
     if read <= write {
-        return write - read;
+        return minus(write, read);
     }
-    minus(minus(window.end, window.start), read - write)
+    minus(minus(window.end, window.start), minus(read, write))
 }
 
 // "Count is (write minus read) modulo size; equal pointers mean empty."

@@ -15,7 +15,9 @@ fn at_1000(read: u32, write: u32) -> Fifo {
         write,
         read,
     };
-    Fifo { window, control: 0 }
+    let mut r = fifo::fresh();
+    r.window = window;
+    r
 }
 
 // The count, or 1000 and the refusal's number.
