@@ -15,7 +15,9 @@ use Rattle.vertex.specs.declared.Attribute.{Attribute}
 use Rattle.vertex.specs.declared.Attribute.the-variants.{Absent, Matrix, Index, Indices, Colour, Position, Texture, Normal, Frame}
 use Rattle.vertex.specs.declared.Answer.{Answer}
 use Rattle.vertex.specs.declared.Answer.the-variants.{Done, Refused}
-use Rattle.vertex.specs.Answers.{told, meaning, SingleTriple, SingleAttribute, SingleAnswer}
+use Rattle.vertex.specs.declared.RawAnswer.{RawAnswer}
+use Rattle.vertex.specs.declared.RawAnswer.the-variants as raw
+use Rattle.vertex.specs.Answers.{told, meaning, rawMeaning, SingleTriple, SingleAttribute, SingleAnswer}
 
 single : ℕ → Float
 single b = ofBits binary32 b
@@ -75,3 +77,10 @@ meaning-injective (Done a) (Done b) h k e = ap Done (told-injective a b h k (ap 
 meaning-injective (Done a) (Refused s) h k e = absurd (omega (arith, number-some s, ap (λ (l : List ℕ). getD l 0 0) e))
 meaning-injective (Refused r) (Done b) h k e = absurd (omega (arith, number-some r, ap (λ (l : List ℕ). getD l 0 0) e))
 meaning-injective (Refused r) (Refused s) h k e = ap Refused (number-injective r s (ap (λ (l : List ℕ). getD l 0 0) e))
+
+-- and so do those of a count of raw words
+pub raw-injective : (a b : RawAnswer) → rawMeaning a ≡ rawMeaning b → a ≡ b
+raw-injective (raw.Count n) (raw.Count m) e = ap raw.Count (ap (λ (l : List ℕ). getD l 1 0) e)
+raw-injective (raw.Count n) (raw.Refused s) e = absurd (omega (arith, number-some s, ap (λ (l : List ℕ). getD l 0 0) e))
+raw-injective (raw.Refused r) (raw.Count m) e = absurd (omega (arith, number-some r, ap (λ (l : List ℕ). getD l 0 0) e))
+raw-injective (raw.Refused r) (raw.Refused s) e = ap raw.Refused (number-injective r s (ap (λ (l : List ℕ). getD l 0 0) e))

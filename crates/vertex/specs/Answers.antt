@@ -92,8 +92,7 @@ abbrev pub rawOf : Descriptor → ℕ → List ℕ → ℕ → ℕ
 rawOf d k l i = rawAt l (offsetOf d k) (formatOf d k) i
 
 -- what `decode` promises: which answer it is; that each component of an integer format is exactly its integer over 2 to the fraction
--- bits; that
--- each f32 keeps its pattern, and is a NaN where that is one's
+-- bits; that each f32 keeps its pattern, and is a NaN where that is one's
 pub record Decodes (d : Descriptor) (k : ℕ) (l : List ℕ) (r : Answer) : Type 0 where
   pub meaning-is : meaning r ≡ decodingOf d k l
   pub exact : (i : ℕ) → HasComponent d k l i → formatOf d k < 4

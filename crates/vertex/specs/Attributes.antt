@@ -1,8 +1,6 @@
 -- "An attribute decodes to one of: absent, matrix number, one index, three indices, a raw colour number, or floating-point components":
--- the
--- kind and the values of attribute k, floats by their bits. The kinds: 0 absent, 1 matrix, 2 one index, 3 three, 4 raw colour, 5
--- position,
--- 6 texture, 7 normal of three components, 8 of nine.
+-- the kind and the values of attribute k, floats by their bits. The kinds: 0 absent, 1 matrix, 2 one index, 3 three, 4 raw colour, 5
+-- position, 6 texture, 7 normal of three components, 8 of nine.
 use mathlib.Core.Bool.{cond, not, _&&_}
 use mathlib.Core.List.{List, [], _∷_, _++_}
 use Prim.Native.Nat.{ℕ, _+_, _-_, _*_, _%_}
