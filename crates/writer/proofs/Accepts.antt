@@ -20,10 +20,11 @@ use Rattle.command.specs.Look.{xfCount, whole, lookCp, xfWords, xfAddress, look
 use Rattle.command.specs.Look.{unlessRefused, lookHead, isIndexed, isDraw, byOpcode, lookOf}
 use Rattle.command.proofs.Bounds.{Fair, look-fair}
 use Rattle.command.proofs.Prefix.{look-alone}
+use Rattle.effect.proofs.Lengths.{length-loaded}
 use Rattle.effect.specs.Effect.{loadedXf, xfAfter}
 use Rattle.writer.specs.Write.{headOf, wordsOf, commandBytes, unwritable, unaddressed, pastEnd}
 use Rattle.writer.specs.Again.{lowered, heldWords}
-use Rattle.writer.proofs.Again.{length-loaded, indexed-op, plain-again, bp-again, cp-again, call-again, indexed-again, head-again, xf-again}
+use Rattle.writer.proofs.Again.{indexed-op, plain-again, bp-again, cp-again, call-again, indexed-again, head-again, xf-again}
 
 -- the writer takes the command with the words that the memory holds, and writes the unit's bytes
 pub record Rewrites (u xf c : List ℕ) : Type 0 where

@@ -11,26 +11,16 @@ use lib.Dec.{leb, ltb, eqb, lit<}
 use lib.ListN.{length, getD, set, take, drop, length-append, length-drop, length-set, take-append-drop}
 use borrow.Author.Tests.{le-leb, eqb-true, leb-true, ltb-true, ltb-false}
 use lib.Seq.{take-take, take-all, drop-cons, take-add, drop-drop, drop-set-add, take-suc-set, length-take-le}
-use Rattle.laws.proofs.Cases.{cond-both}
 use Rattle.octets.specs.BigEndian.{bigEndian, bytesOf}
 use Rattle.octets.proofs.Number.{Octets, big-lt, two-bytes}
 use Rattle.octets.proofs.Written.{length-bytes, write-back}
 use Rattle.command.specs.Command.{loadCp, loadXf, loadIndexed, callList, loadBp, drawHead}
 use Rattle.command.specs.Look.{xfCount, xfWords, xfAddress, indexedArray, isIndexed, isDraw}
 use Rattle.effect.specs.Effect.{storedXf, loadedXf, xfAfter}
+use Rattle.effect.proofs.Lengths.{length-stored}
 use Rattle.writer.specs.Write.{lengthField, headOf, wordsOf, wordBytes, commandBytes}
 use Rattle.writer.specs.Again.{lowered, heldWords}
 use Rattle.writer.proofs.Words.{words-append, words-one}
-
-length-stored : (xf u : List ℕ) (a n : ℕ) → length (storedXf xf u a n) ≡ length xf
-unfolding storedXf
-length-stored xf u a zero = refl
-length-stored xf u a (suc n) = simp length-set (length-stored xf u a n)
-
-pub length-loaded : (xf u : List ℕ) (w a : ℕ) → length (loadedXf xf u w a) ≡ length xf
-unfolding loadedXf
-length-loaded xf u w a =
-    cond-both (λ (x : List ℕ). length x ≡ length xf) (leb (5 + 4 * w) (length u) && leb (a + w) (length xf)) (λ _. length-stored xf u a w) (λ _. refl)
 
 -- the words that a load stored, written again, are its bytes
 words-again : (xf u : List ℕ) → Octets u → (a n : ℕ) → a + n ≤ length xf → 5 + 4 * n ≤ length u

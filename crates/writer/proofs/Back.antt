@@ -7,8 +7,8 @@ use native.Mathlib.Omega.{arith}
 use lib.Dec.{leb, ltb, eqb}
 use lib.ListN.{length, take, length-append}
 use lib.Seq.{length-take-le}
-use borrow.Author.Tests.{eqb-true, leb-true, leb-false, ltb-true, ltb-false}
-use Rattle.laws.proofs.Cases.{and-left, and-right, or-left, or-right, not-false}
+use borrow.Author.Tests.{not-false, eqb-true, leb-true, leb-false, ltb-true, ltb-false}
+use Rattle.laws.proofs.Cases.{and-left, and-right, or-left, or-right}
 use Rattle.octets.specs.BigEndian.{bytesOf}
 use Rattle.layout.specs.Answers.{refusalOf}
 use Rattle.command.specs.declared.Command.{Command}

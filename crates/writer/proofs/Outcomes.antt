@@ -7,8 +7,8 @@ use native.Mathlib.Omega.{arith}
 use lib.Dec.{leb, ltb, eqb}
 use lib.ListN.{length, take, drop, length-append}
 use lib.Seq.{take-at, drop-append-add, drop-drop, length-take-le}
-use borrow.Author.Tests.{ne-eqb, eqb-true, lt-ltb, le-ltb}
-use Rattle.laws.proofs.Cases.{and-right, not-false}
+use borrow.Author.Tests.{not-false, ne-eqb, eqb-true, lt-ltb, le-ltb}
+use Rattle.laws.proofs.Cases.{and-right}
 use Rattle.refusal.specs.Number.{number}
 use Rattle.refusal.specs.declared.Reason.{Reason}
 use Rattle.refusal.specs.declared.Reason.the-variants.{UnwritableCommand, UnknownCpAddress, XfLoadPastEnd, OutputShort}

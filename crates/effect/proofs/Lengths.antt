@@ -1,0 +1,42 @@
+-- No effect changes the length of what is lent.
+use mathlib.Core.Path.{_≡_, refl}
+use mathlib.Core.Bool.{_&&_}
+use mathlib.Core.List.{List}
+use Prim.Native.Nat.{ℕ, zero, suc, _+_, _*_, _≤_}
+use native.Mathlib.Omega.{arith}
+use lib.Dec.{leb, ltb, eqb}
+use lib.ListN.{length, length-set, length-append, length-drop}
+use borrow.Author.Tests.{leb-true}
+use Rattle.laws.proofs.Cases.{cond-both}
+use Rattle.command.specs.Command.{kindOf, fieldOf}
+use Rattle.command.specs.Places.{cpCount, cpPlace}
+use Rattle.effect.specs.Effect.{storedXf, loadedXf, xfAfter, copied, vertexAfter}
+
+-- a list as long as another
+abbrev AsLong : List ℕ → List ℕ → Type 0
+AsLong l m = length m ≡ length l
+
+pub length-stored : (xf u : List ℕ) (a n : ℕ) → length (storedXf xf u a n) ≡ length xf
+unfolding storedXf
+length-stored xf u a zero = refl
+length-stored xf u a (suc n) = simp length-set (length-stored xf u a n)
+
+pub length-loaded : (xf u : List ℕ) (w a : ℕ) → length (loadedXf xf u w a) ≡ length xf
+unfolding loadedXf
+length-loaded xf u w a =
+    cond-both (AsLong xf) (leb (5 + 4 * w) (length u) && leb (a + w) (length xf)) (λ _. length-stored xf u a w) (λ _. refl)
+
+pub length-xf : (c bytes xf : List ℕ) → length (xfAfter c bytes xf) ≡ length xf
+unfolding xfAfter
+length-xf c bytes xf = cond-both (AsLong xf) (eqb (kindOf c) 0x10) (λ _. length-loaded xf bytes (fieldOf c 1) (fieldOf c 2)) (λ _. refl)
+
+pub length-copied : (bytes buffer : List ℕ) → length (copied bytes buffer) ≡ length buffer
+unfolding copied
+length-copied bytes buffer =
+    cond-both (AsLong buffer) (leb (length bytes) (length buffer))
+    (λ e. let h : length bytes ≤ length buffer = leb-true (length bytes) (length buffer) e in rw (length-append bytes, length-drop) (omega arith))
+    (λ _. refl)
+
+pub length-buffer : (c bytes buffer : List ℕ) → length (vertexAfter c bytes buffer) ≡ length buffer
+unfolding vertexAfter
+length-buffer c bytes buffer = cond-both (AsLong buffer) (eqb (kindOf c) 0x01) (λ _. length-copied bytes buffer) (λ _. refl)

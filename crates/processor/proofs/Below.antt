@@ -1,0 +1,58 @@
+-- Laws of a test that every number of a list is below a limit.
+use mathlib.Core.Path.{_≡_, refl, sym, ap, _∙_}
+use mathlib.Core.Bool.{Bool, true, false, _&&_}
+use mathlib.Core.List.{List, [], _∷_, _++_}
+use Prim.Native.Nat.{ℕ, zero, suc, _+_, _<_, _≤_}
+use native.Mathlib.Numerals.{add-one}
+use native.Mathlib.Omega.{arith}
+use lib.Dec.{ltb}
+use lib.ListN.{length, getD, set, take, drop, length-drop}
+use lib.Seq.{take-suc, getD-drop}
+use borrow.Author.Tests.{ltb-true, lt-ltb}
+use Rattle.laws.proofs.Cases.{and-left, and-right}
+use Rattle.processor.specs.Gate.{allBelow}
+
+and-assoc : (a b c : Bool) → (a && b) && c ≡ a && (b && c)
+and-assoc true b c = refl
+and-assoc false b c = refl
+
+and-true : (a : Bool) → a && true ≡ a
+and-true true = refl
+and-true false = refl
+
+below-snoc : (limit : ℕ) (l : List ℕ) (x : ℕ) → allBelow limit (l ++ (x ∷ [])) ≡ allBelow limit l && ltb x limit
+unfolding allBelow
+below-snoc limit [] x = and-true (ltb x limit)
+below-snoc limit (y ∷ l) x = ap (λ (b : Bool). ltb y limit && b) (below-snoc limit l x) ∙ sym (and-assoc (ltb y limit) (allBelow limit l) (ltb x limit))
+
+pub below-none : (limit : ℕ) (l : List ℕ) → true ≡ allBelow limit (take 0 l)
+unfolding allBelow
+below-none limit l = refl
+
+-- one value more
+pub below-next : (limit from i : ℕ) (l : List ℕ) (b : Bool) → from + i < length l → b ≡ allBelow limit (take i (drop from l))
+    → b && ltb (getD l (from + i) 0) limit ≡ allBelow limit (take (i + 1) (drop from l))
+below-next limit from i l b h e =
+    let short : i < length (drop from l) = rw length-drop (omega arith) in
+    rw (add-one i, take-suc (drop from l) i 0 short, getD-drop from l i 0, below-snoc limit (take i (drop from l)) (getD l (from + i) 0))
+    (ap (λ (x : Bool). x && ltb (getD l (from + i) 0) limit) e)
+
+-- each number of a list is below the limit, 0 past its end too; and back
+pub below-at : (limit : ℕ) (l : List ℕ) → 0 < limit → allBelow limit l ≡ true → (k : ℕ) → getD l k 0 < limit
+unfolding allBelow
+below-at limit [] some e k = some
+below-at limit (x ∷ l) some e zero = ltb-true x limit (and-left (ltb x limit) (allBelow limit l) e)
+below-at limit (x ∷ l) some e (suc k) = below-at limit l some (and-right (ltb x limit) (allBelow limit l) e) k
+
+pub below-all : (limit : ℕ) (l : List ℕ) → ((k : ℕ) → k < length l → getD l k 0 < limit) → allBelow limit l ≡ true
+unfolding allBelow
+below-all limit [] f = refl
+below-all limit (x ∷ l) f = rw (lt-ltb x limit (f 0 (omega arith)), below-all limit l (λ k h. f (suc k) (omega arith)))
+
+-- a value below the limit stored
+pub below-set : (limit : ℕ) (l : List ℕ) (k v : ℕ) → allBelow limit l ≡ true → v < limit → allBelow limit (set l k v) ≡ true
+unfolding allBelow
+below-set limit [] k v e h = refl
+below-set limit (x ∷ l) zero v e h = rw (lt-ltb v limit h) (and-right (ltb x limit) (allBelow limit l) e)
+below-set limit (x ∷ l) (suc k) v e h =
+    rw (and-left (ltb x limit) (allBelow limit l) e) (below-set limit l k v (and-right (ltb x limit) (allBelow limit l) e) h)

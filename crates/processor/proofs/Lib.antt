@@ -1,0 +1,9 @@
+pub mod Below
+pub mod Bytes
+pub mod Found
+pub mod Passing
+pub mod Bridge
+pub mod Stays
+pub mod Valid
+pub mod Stepping
+pub mod Course

@@ -1,0 +1,71 @@
+-- `processor::step` meets its contract: past the gate it is one unit of the queue, and the cursor closed is the fifo after it.
+use borrow.Author.Needs.{needs}
+use mathlib.Core.Path.{_≡_, sym, ap, _∙_}
+use Rattle.processor.proofs.Stepping.{steps-refused, steps-taken}
+use Rattle.processor.proofs.Bridge.{takes-opened}
+use Rattle.processor.proofs.Passing.{gate-passes, passed}
+use Rattle.processor.specs.Gate.{meaningOfGate}
+use Rattle.processor.specs.State.{State, stateOf}
+use Rattle.processor.proofs.step.Statement.{statement}
+use Rattle.processor.proofs.step.Tie as tie
+use Rattle.processor.proofs.step.Reads as reads
+use Rattle.processor.proofs.step.Lts as lts
+use Rattle.fifo.proofs.close.Reads as close-reads
+use Rattle.fifo.proofs.open.Reads as open-reads
+use Rattle.processor.proofs.taking.take.Reads as take-reads
+use Rattle.processor.proofs.tests.pass.Reads as pass-reads
+
+pass-requires : tie.Need-pass-requires
+pass-requires c κs = search needs
+
+enum-known-gate : tie.Need-enum-known-gate
+enum-known-gate c = search needs
+
+enum-told : tie.Need-enum-told
+enum-told c = search needs
+
+open-requires : tie.Need-open-requires
+open-requires c κs = search needs
+
+take-requires : tie.Need-take-requires
+take-requires c κs = search needs
+
+close-requires : tie.Need-close-requires
+close-requires c κs = search needs
+
+returns : tie.Need-returns
+returns c =
+    steps-refused _ _ _ _ _ _ (sym (ap meaningOfGate (c .before .gate .given .1)) ∙ c .before .before .before .pass .ensures)
+
+same-length : tie.Need-same-length
+same-length c = search needs
+
+same-length-2 : tie.Need-same-length-2
+same-length-2 c = search needs
+
+returns-2 : tie.Need-returns-2
+returns-2 c =
+    let t = c .before .before .before .before .before .before in
+    let o = t .before .before .before .before .before in
+    let told = o .before in
+    let p = told .before .before in
+    let a = p .before .before .before .before .before .before .before .before .args in
+    let s : State = stateOf (a .fifo) (a .registers) (a .xf .now) (a .buffer .now) in
+    let g = passed _ (sym (ap meaningOfGate (told .enum-told .given .1)) ∙ p .pass .ensures) in
+    let k = gate-passes s _ g in
+    steps-taken _ s g (takes-opened _ s (k .ready) (o .open .ensures) (t .take .ensures)) (c .close .ensures)
+
+pub step-spec : {M : Type 1} → statement M
+step-spec =
+    tie.close
+    (tie.spec
+    pass-requires
+    enum-known-gate
+    enum-told
+    open-requires
+    take-requires
+    close-requires
+    returns
+    same-length
+    same-length-2
+    returns-2)

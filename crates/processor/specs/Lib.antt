@@ -1,0 +1,5 @@
+pub mod State
+pub mod Gate
+pub mod Step
+pub mod Cursor
+pub mod Run

@@ -1,0 +1,45 @@
+-- "The bench holds a ring window, a control word, CP registers, 256 BP registers, an open draw or none, and lent memory."
+use mathlib.Core.Bool.{Bool, true, false}
+use mathlib.Core.List.{List}
+use Prim.Native.Nat.{ℕ}
+use lib.ListN.{replicate, set}
+use Rattle.command.specs.declared.Draw.{Draw}
+use Rattle.command.specs.declared.Draw.the-variants.{Closed, Open}
+use Rattle.effect.specs.Effect.{maskPlace}
+use Rattle.fifo.specs.declared.Fifo.{Fifo}
+use Rattle.fifo.specs.Window.{freshFifo}
+use Rattle.processor.specs.declared.Machine.{Machine}
+use Rattle.processor.specs.declared.Registers.{Registers}
+
+-- all that a unit can change: the fifo, the registers and open draw, the XF words, and the vertex buffer
+pub record State : Type 0 where
+  pub fifo : Fifo
+  pub cp : List ℕ
+  pub bp : List ℕ
+  pub draw : Draw
+  pub xf : List ℕ
+  pub buffer : List ℕ
+
+abbrev pub stateOf : Fifo → Registers → List ℕ → List ℕ → State
+stateOf f r xf buffer =
+    record {
+      fifo = f;
+      cp = r .cp;
+      bp = r .bp;
+      draw = r .draw;
+      xf = xf;
+      buffer = buffer;
+    }
+
+-- whether a draw is open
+abbrev pub drawingOf : Draw → Bool
+drawingOf Closed = false
+drawingOf (Open primitive format left) = true
+
+-- "Fresh state: control 0010 (hex), BP register FE holding FFFFFF, every other register zero, no draw open."
+unfoldable pub freshMachine : Machine
+freshMachine =
+    record {
+      fifo = freshFifo;
+      registers = record { cp = replicate 60 0; bp = set (replicate 256 0) maskPlace 0xFFFFFF; draw = Closed };
+    }

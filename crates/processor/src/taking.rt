@@ -1,0 +1,87 @@
+// One unit taken off a cursor: looked at, executed, consumed.
+use crate::StepAnswer;
+use command::Command;
+use command::Draw;
+use command::Next;
+use fifo::Cursor;
+ghost use Prim.Native.Nat.{_≤_};
+ghost use Rattle.command.specs.Command.{numbersOf};
+ghost use Rattle.effect.specs.Effect.{Applied};
+ghost use Rattle.processor.specs.Cursor.{seen, bytesAt, Takes};
+
+// What one unit leaves of the cursor and the draw, and its answer.
+pub struct Moved {
+    pub cursor: Cursor,
+    pub draw: Draw,
+    pub answer: StepAnswer,
+}
+
+// The effect of a command whose unit is the cursor's first n bytes. Where they lie straight they are lent as a part of the ring, and else
+// gathered.
+fn execute(
+    command: Command,
+    cursor: Cursor,
+    ring: &[u8],
+    n: u32,
+    cp: &mut [u32; 60],
+    bp: &mut [u32; 256],
+    xf: &mut [u32],
+    buffer: &mut [u8],
+)
+    requires { ⌜ n ≤ 129 ⌝ }
+    ensures { λ _. ⌜ Applied (numbersOf command) (bytesAt cursor (now (ring .entry)) n) (now (cp .entry)) (now (bp .entry)) (now (xf .entry)) (now (buffer .entry)) (now (cp .exit)) (now (bp .exit)) (now (xf .exit)) (now (buffer .exit)) ⌝ }
+{
+    let at = cursor.at as usize;
+    let end = at + n as usize;
+    if fifo::straight(cursor, n) & (end <= ring.len()) {
+        effect::apply(command, &ring[at..end], cp, bp, xf, buffer);
+        return;
+    }
+    let mut bytes = [0u8; 129];
+    fifo::copy(cursor, ring, &mut bytes, n);
+    effect::apply(command, &bytes[..n as usize], cp, bp, xf, buffer);
+}
+
+// Takes one unit, or answers why there is none.
+pub fn take(
+    cursor: Cursor,
+    ring: &[u8],
+    cp: &mut [u32; 60],
+    bp: &mut [u32; 256],
+    draw: Draw,
+    xf: &mut [u32],
+    buffer: &mut [u8],
+) -> Moved
+    ensures { λ r. ⌜ Takes (seen cursor (now (ring .entry)) (now (cp .entry)) draw) cursor (now (ring .entry)) (now (cp .entry)) (now (bp .entry)) draw (now (xf .entry)) (now (buffer .entry)) (r .answer) (r .cursor) (r .draw) (now (cp .exit)) (now (bp .exit)) (now (xf .exit)) (now (buffer .exit)) ⌝ }
+{
+    let bytes = fifo::peek(cursor, ring);
+    let next = command::look(bytes, cursor.left, cp, draw);
+    match next {
+        Next::Unit {
+            command,
+            memory,
+            length,
+        } => {
+            execute(command, cursor, ring, length, cp, bp, xf, buffer);
+            Moved {
+                cursor: fifo::skip(cursor, length),
+                draw: effect::next_draw(command, draw),
+                answer: StepAnswer::Done {
+                    command,
+                    memory,
+                    length,
+                },
+            }
+        }
+        Next::Waiting(lacking) => Moved {
+            cursor,
+            draw,
+            answer: StepAnswer::Waiting(lacking),
+        },
+        Next::Refused(reason) => Moved {
+            cursor,
+            draw,
+            answer: StepAnswer::Refused(reason),
+        },
+    }
+}

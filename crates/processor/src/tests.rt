@@ -1,0 +1,90 @@
+// Refusals 1 to 5, in their order.
+use crate::Gate;
+use command::Draw;
+use fifo::Fifo;
+use refusal::Reason;
+ghost use mathlib.Core.Path.{_≡_};
+ghost use Prim.Native.Nat.{_+_, _≤_};
+ghost use lib.ListN.{length, take, drop};
+ghost use mathlib.Core.List.{[], _∷_};
+ghost use Rattle.processor.specs.Gate.{allBelow, cpFits, drawFits, registersFit, stateFits, gateBy, meaningOfGate};
+
+// Whether n values from a place on are below a limit.
+fn all_below(values: &[u32], from: usize, n: usize, limit: u32) -> bool
+    requires { ⌜ from + n ≤ length (now values) ⌝ }
+    ensures { λ r. ⌜ r ≡ allBelow limit (take n (drop from (now (values .entry)))) ⌝ }
+{
+    let mut fits = true;
+    let mut i: usize = 0;
+    while i < n {
+        fits = fits & (values[from + i] < limit);
+        i += 1;
+    }
+    fits
+}
+
+// Bases of 26 bits, strides of 8.
+fn cp_fits(cp: &[u32; 60]) -> bool
+    ensures { λ r. ⌜ r ≡ cpFits (now (cp .entry)) ⌝ }
+{
+    all_below(cp, 28, 16, 0x400_0000) & all_below(cp, 44, 16, 256)
+}
+
+// An open draw has a vertex left, and a primitive and a format of three bits.
+fn draw_fits(draw: Draw) -> bool
+    ensures { λ r. ⌜ r ≡ drawFits draw ⌝ }
+{
+    match draw {
+        Draw::Closed => true,
+        Draw::Open {
+            primitive,
+            format,
+            left,
+        } => (1 <= left) & ((primitive < 8) & (format < 8)),
+    }
+}
+
+// BP registers of 24 bits, bases, strides and the draw.
+fn registers_fit(cp: &[u32; 60], bp: &[u32; 256], draw: Draw) -> bool
+    ensures { λ r. ⌜ r ≡ registersFit (now (cp .entry)) (now (bp .entry)) draw ⌝ }
+{
+    all_below(bp, 0, 256, 0x100_0000) & (cp_fits(cp) & draw_fits(draw))
+}
+
+// The whole of 1.
+fn state_fits(fifo: Fifo, cp: &[u32; 60], bp: &[u32; 256], draw: Draw, ring: usize) -> bool
+    ensures { λ r. ⌜ r ≡ stateFits fifo (now (cp .entry)) (now (bp .entry)) draw ring ⌝ }
+{
+    fifo::ready(fifo, ring) & ((fifo.control < 64) & registers_fit(cp, bp, draw))
+}
+
+// The first of 1 to 5 that applies, for a ring, XF words and a vertex buffer of such lengths.
+pub fn pass(
+    fifo: Fifo,
+    cp: &[u32; 60],
+    bp: &[u32; 256],
+    draw: Draw,
+    ring: usize,
+    xf: usize,
+    buffer: usize,
+) -> Gate
+    ensures { λ r. ⌜ meaningOfGate r ≡ gateBy fifo (now (cp .entry)) (now (bp .entry)) draw ring xf buffer ∷ [] ⌝ }
+{
+    if !state_fits(fifo, cp, bp, draw, ring) {
+        return Gate::Refused(Reason::InvalidState);
+    }
+    if xf != 4184 {
+        return Gate::Refused(Reason::XfMemoryLength);
+    }
+    if buffer < 129 {
+        return Gate::Refused(Reason::VertexBufferShort);
+    }
+    let control = fifo.control;
+    if control % 2 == 0 {
+        return Gate::Refused(Reason::ReadDisabled);
+    }
+    if control / 16 % 2 != 0 {
+        return Gate::Refused(Reason::LinkedMode);
+    }
+    Gate::Passed
+}
