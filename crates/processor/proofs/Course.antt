@@ -18,7 +18,7 @@ use Rattle.processor.specs.declared.StepAnswer.{StepAnswer}
 use Rattle.processor.specs.State.{State}
 use Rattle.processor.specs.Gate.{gateOf}
 use Rattle.processor.specs.Step.{meaning, lookAt, executed, after, stepFound, stepOf}
-use Rattle.processor.specs.Run.{Taken, Ended, stopOf, goneOn, steps}
+use Rattle.processor.specs.Run.{Taken, Ended, stopOf, goneOn, steps, Arrives}
 use Rattle.processor.proofs.Passing.{Passes, gate-passes, passes-gate}
 use Rattle.processor.proofs.Bridge.{TakesUnit}
 use Rattle.processor.proofs.Valid.{after-passes, step-passed, step-after}
@@ -36,12 +36,6 @@ pub record Course (ring : List ℕ) (limit : ℕ) (s : State) (cursor : Cursor) 
   pub count-is : length (steps ring limit s .units) ≡ units + length (steps ring (limit - units) (hereOf (s .fifo) consumed cp bp draw xf buffer) .units)
   pub stop-is : steps ring limit s .stop ≡ steps ring (limit - units) (hereOf (s .fifo) consumed cp bp draw xf buffer) .stop
   pub state-is : steps ring limit s .state ≡ steps ring (limit - units) (hereOf (s .fifo) consumed cp bp draw xf buffer) .state
-
--- how the run ended
-pub record Arrives (ring : List ℕ) (limit : ℕ) (s : State) (stop : List ℕ) (fifo : Fifo) (cp bp : List ℕ) (draw : Draw) (xf buffer : List ℕ) (units : ℕ) : Type 0 where
-  pub units-are : units ≡ length (steps ring limit s .units)
-  pub stop-is : stop ≡ steps ring limit s .stop
-  pub state-is : _≡_ {A = State} (record { fifo = fifo; cp = cp; bp = bp; draw = draw; xf = xf; buffer = buffer }) (steps ring limit s .state)
 
 module _ (ring : List ℕ) (limit : ℕ) (s : State) (g : gateOf s (length ring) ≡ 0) where
   begun : consume (s .fifo) 0 ≡ s .fifo

@@ -5,6 +5,8 @@ use Prim.Native.Nat.{ℕ, zero, suc, min}
 use lib.ListN.{length}
 use Rattle.refusal.specs.Number.{number}
 use Rattle.command.specs.Command.{Found, unit, waiting, refused}
+use Rattle.command.specs.declared.Draw.{Draw}
+use Rattle.fifo.specs.declared.Fifo.{Fifo}
 use Rattle.processor.specs.declared.Stop.{Stop}
 use Rattle.processor.specs.declared.Stop.the-variants.{Limit, Waiting, Refused}
 use Rattle.processor.specs.declared.Ran.{Ran}
@@ -48,6 +50,16 @@ goneOn (refused r) s e = ended [] (stopOf (refused r)) s
 unfoldable pub steps : List ℕ → ℕ → State → Ended
 steps ring zero s = ended [] (0 ∷ []) s
 steps ring (suc n) s = goneOn (stepFound ring s) s (steps ring n (stepOf ring s))
+
+-- the state at a run's entry
+abbrev pub entryOf : Fifo → List ℕ → List ℕ → Draw → List ℕ → List ℕ → State
+entryOf f cp bp draw xf buffer = record { fifo = f; cp = cp; bp = bp; draw = draw; xf = xf; buffer = buffer }
+
+-- where steps arrive: how many there were, why they ended, and what they left
+pub record Arrives (ring : List ℕ) (limit : ℕ) (s : State) (stop : List ℕ) (fifo : Fifo) (cp bp : List ℕ) (draw : Draw) (xf buffer : List ℕ) (units : ℕ) : Type 0 where
+  pub units-are : units ≡ length (steps ring limit s .units)
+  pub stop-is : stop ≡ steps ring limit s .stop
+  pub state-is : _≡_ {A = State} (record { fifo = fifo; cp = cp; bp = bp; draw = draw; xf = xf; buffer = buffer }) (steps ring limit s .state)
 
 -- the most units of a run
 unfoldable pub runLimit : ℕ

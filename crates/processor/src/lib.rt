@@ -1,4 +1,5 @@
 // The processor: the registers that ports share, one unit of the stream, or a run of units (document 01's "bench").
+mod running;
 mod taking;
 mod tests;
 
@@ -12,6 +13,7 @@ ghost use Rattle.fifo.specs.Answers.{meaningOfReading};
 ghost use Rattle.fifo.specs.Registers.{readAnswer};
 ghost use Rattle.processor.specs.State.{stateOf, freshMachine, drawingOf};
 ghost use Rattle.processor.specs.Step.{Steps};
+ghost use Rattle.processor.specs.Run.{runOf, Reports};
 
 // What ports share: the 60 CP registers, the 256 BP registers, and the open draw.
 pub struct Registers {
@@ -132,6 +134,45 @@ pub fn step(
                 fifo: fifo::close(fifo, cursor),
                 registers,
                 answer,
+            }
+        }
+    }
+}
+
+// A run of units: 1 to 5 once, then steps until the limit, waiting or a refusal. More than 65,535 units count as that.
+pub fn run(
+    fifo: Fifo,
+    registers: Registers,
+    ring: &[u8],
+    xf: &mut [u32],
+    buffer: &mut [u8],
+    limit: u32,
+) -> Ran
+    ensures { λ r. ⌜ Reports (runOf (now (ring .entry)) limit (stateOf fifo registers (now (xf .entry)) (now (buffer .entry)))) r (now (xf .exit)) (now (buffer .exit)) ⌝ }
+{
+    let mut cp = registers.cp;
+    let mut bp = registers.bp;
+    let draw = registers.draw;
+    let most = running::capped(limit);
+    let gate = tests::pass(fifo, &cp, &bp, draw, ring.len(), xf.len(), buffer.len());
+    match gate {
+        Gate::Refused(reason) => Ran {
+            fifo,
+            registers,
+            units: 0,
+            stop: Stop::Refused(reason),
+        },
+        Gate::Passed => {
+            let course = running::take_units(fifo, ring, &mut cp, &mut bp, draw, xf, buffer, most);
+            let draw = course.draw;
+            let stop = course.stop;
+            let left = course.fifo;
+            let registers = Registers { cp, bp, draw };
+            Ran {
+                fifo: left,
+                registers,
+                units: course.units,
+                stop,
             }
         }
     }

@@ -8,12 +8,6 @@ use Rattle.processor.specs.Gate.{meaningOfGate}
 use Rattle.processor.specs.State.{State, stateOf}
 use Rattle.processor.proofs.step.Statement.{statement}
 use Rattle.processor.proofs.step.Tie as tie
-use Rattle.processor.proofs.step.Reads as reads
-use Rattle.processor.proofs.step.Lts as lts
-use Rattle.fifo.proofs.close.Reads as close-reads
-use Rattle.fifo.proofs.open.Reads as open-reads
-use Rattle.processor.proofs.taking.take.Reads as take-reads
-use Rattle.processor.proofs.tests.pass.Reads as pass-reads
 
 pass-requires : tie.Need-pass-requires
 pass-requires c κs = search needs

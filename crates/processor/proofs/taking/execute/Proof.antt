@@ -18,11 +18,6 @@ use Rattle.command.specs.Command.{numbersOf}
 use Rattle.laws.proofs.Cases.{and-left, and-right}
 use Rattle.processor.proofs.taking.execute.Statement.{statement}
 use Rattle.processor.proofs.taking.execute.Tie as tie
-use Rattle.processor.proofs.taking.execute.Reads as reads
-use Rattle.processor.proofs.taking.execute.Lts as lts
-use Rattle.effect.proofs.apply.Reads as apply-reads
-use Rattle.fifo.proofs.copy.Reads as copy-reads
-use Rattle.fifo.proofs.straight.Reads as straight-reads
 
 abbrev start-of : tie.Then1 → tie.Start
 start-of t = t .before .before .before .before .before .before

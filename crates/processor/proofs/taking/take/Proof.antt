@@ -7,13 +7,6 @@ use Rattle.processor.specs.Cursor.{seen}
 use Rattle.command.specs.Command.{meaning}
 use Rattle.processor.proofs.taking.take.Statement.{statement}
 use Rattle.processor.proofs.taking.take.Tie as tie
-use Rattle.processor.proofs.taking.take.Reads as reads
-use Rattle.processor.proofs.taking.take.Lts as lts
-use Rattle.command.proofs.look.Reads as look-reads
-use Rattle.effect.proofs.next_draw.Reads as next-draw-reads
-use Rattle.fifo.proofs.peek.Reads as peek-reads
-use Rattle.fifo.proofs.skip.Reads as skip-reads
-use Rattle.processor.proofs.taking.execute.Reads as execute-reads
 
 abbrev start-of : tie.After-look → tie.Start
 start-of l = l .before .before .before .before .before .before
