@@ -1,0 +1,97 @@
+-- "Over any feeds and steps with no window register written between, bytes accepted minus bytes consumed by answered units equals the change
+-- in count."
+use mathlib.Core.Path.{_≡_, refl, sym, ap, _∙_, subst}
+use mathlib.Core.Bool.{Bool, true, false, cond, _&&_, _||_}
+use mathlib.Core.Logic.{_⊎_, inl, inr, ⊎-elim}
+use mathlib.Core.List.{List, [], _∷_, _++_, append-nil}
+use Prim.Native.Nat.{ℕ, zero, suc, _+_, _-_, _/_, _<_, _≤_}
+use native.Mathlib.Nat.{zero-add}
+use native.Mathlib.Omega.{arith}
+use lib.Dec.{eqb, leb}
+use lib.ListN.{length, getD, set, drop, length-append, length-drop}
+use borrow.Author.Tests.{eqb-true, leb-true, ne-eqb, le-ltb}
+use Rattle.laws.proofs.Cases.{cond-both, order, and-left, and-right}
+use Rattle.fifo.specs.declared.Fifo.{Fifo}
+use Rattle.fifo.specs.declared.Window.{Window}
+use Rattle.fifo.specs.Window.{countOf}
+use Rattle.fifo.specs.Pending.{pending}
+use Rattle.fifo.specs.Registers.{wordAt, withRegister, stored, writable, written}
+use Rattle.fifo.proofs.FeedLaws.{pending-after}
+use Rattle.fifo.proofs.Pending.{length-pending}
+use Rattle.processor.specs.Step.{stepFound, stepOf}
+use Rattle.processor.specs.Run.{Taken}
+use Rattle.history.specs.Calls.{World, Call, feed, step, run, write, read, queue, after, fed, unitsOf, afterAll, fedAll, unitsAll, consumedBy, harmless, Harmless, AllHarmless}
+use Rattle.history.proofs.Flow.{Flows, flow-found, flow-run}
+
+-- ---- a write of control, clear or a mark leaves the queue
+or-cases : (a b : Bool) → (a || b) ≡ true → (a ≡ true) ⊎ (b ≡ true)
+or-cases true b e = inl refl
+or-cases false b e = inr e
+
+-- a mark is one of the words 2 and 3
+mark : (o : ℕ) → 0x28 ≤ o → o ≤ 0x2F → (wordAt o ≡ 2) ⊎ (wordAt o ≡ 3)
+mark o lo hi = ⊎-elim (λ h. inl (omega (arith, h))) (λ h. inr (omega (arith, h))) (order o 0x2C)
+
+mark-kept : (w : Window) (o v : ℕ) (ring : List ℕ) → (wordAt o ≡ 2) ⊎ (wordAt o ≡ 3) → pending (withRegister w o v) ring ≡ pending w ring
+unfolding pending countOf withRegister
+mark-kept w o v ring (inl e) = rw e
+mark-kept w o v ring (inr e) = rw e
+
+stored-kept : (f : Fifo) (o v : ℕ) (ring : List ℕ) → harmless o ≡ true → pending (stored f o v .window) ring ≡ pending (f .window) ring
+unfolding stored harmless
+stored-kept f o v ring h =
+    ⊎-elim
+    (λ e. ⊎-elim (λ t. rw (eqb-true o 2 t)) (λ t. rw (eqb-true o 4 t)) (or-cases (eqb o 2) (eqb o 4) e))
+    (λ e. marks (leb-true 0x28 o (and-left (leb 0x28 o) (leb o 0x2F) e)) (leb-true o 0x2F (and-right (leb 0x28 o) (leb o 0x2F) e)))
+    (or-cases (eqb o 2 || eqb o 4) (leb 0x28 o && leb o 0x2F) h)
+  where
+    marks : 0x28 ≤ o → o ≤ 0x2F → pending (stored f o v .window) ring ≡ pending (f .window) ring
+    marks lo hi =
+        rw (ne-eqb o 4 (λ e. omega arith), le-ltb o 0x20 (omega arith)) (mark-kept (f .window) o v ring (mark o lo hi))
+
+written-kept : (f : Fifo) (o v : ℕ) (ring : List ℕ) → harmless o ≡ true → pending (written f o v .window) ring ≡ pending (f .window) ring
+unfolding written
+written-kept f o v ring h =
+    cond-both (λ (g : Fifo). pending (g .window) ring ≡ pending (f .window) ring) (writable o) (λ _. stored-kept f o v ring h) (λ _. refl)
+
+-- ---- each call
+pub call-flow : (w : World) (c : Call) → Harmless c
+    → (queue (after w c) ≡ drop (consumedBy (unitsOf w c)) (queue w ++ fed w c)) × (consumedBy (unitsOf w c) ≤ length (queue w ++ fed w c))
+unfolding stepOf consumedBy Flows
+call-flow w (feed bytes) h = (pending-after (w .state .fifo) (w .ring) bytes, omega arith)
+call-flow w step h = rw (append-nil (queue w)) (flow-found (w .ring) (w .state) (stepFound (w .ring) (w .state)) refl)
+call-flow w (run limit) h = rw (append-nil (queue w)) (flow-run (w .ring) limit (w .state))
+call-flow w (write o v) h = rw (append-nil (queue w)) (written-kept (w .state .fifo) o v (w .ring) h, omega arith)
+call-flow w (read o) h = rw (append-nil (queue w)) (refl, omega arith)
+
+-- the count of a world
+abbrev pub countAt : World → ℕ
+countAt w = countOf (w .state .fifo .window)
+
+count-call : (w : World) (c : Call) → Harmless c → countAt (after w c) + consumedBy (unitsOf w c) ≡ countAt w + length (fed w c)
+count-call w c h =
+    let f = call-flow w c h in
+    let a : length (queue (after w c)) ≡ countAt (after w c) = length-pending (after w c .state .fifo .window) (after w c .ring) in
+    let b : length (queue w) ≡ countAt w = length-pending (w .state .fifo .window) (w .ring) in
+    let d : length (queue (after w c)) ≡ length (queue w ++ fed w c) - consumedBy (unitsOf w c) = ap length (f .0) ∙ length-drop (consumedBy (unitsOf w c)) (queue w ++ fed w c) in
+    let l : length (queue w ++ fed w c) ≡ length (queue w) + length (fed w c) = length-append (queue w) (fed w c) in
+    omega (arith, f .1)
+
+consumed-append : (us vs : List Taken) → consumedBy (us ++ vs) ≡ consumedBy us + consumedBy vs
+unfolding consumedBy
+consumed-append [] vs = sym (zero-add (consumedBy vs))
+consumed-append (u ∷ us) vs =
+    let e : consumedBy (us ++ vs) ≡ consumedBy us + consumedBy vs = consumed-append us vs in
+    omega arith
+
+-- over any list of calls
+pub conserved : (w : World) (cs : List Call) → AllHarmless cs
+    → countAt (afterAll w cs) + consumedBy (unitsAll w cs) ≡ countAt w + length (fedAll w cs)
+unfolding afterAll unitsAll fedAll consumedBy
+conserved w [] h = refl
+conserved w (c ∷ cs) h =
+    let one : countAt (after w c) + consumedBy (unitsOf w c) ≡ countAt w + length (fed w c) = count-call w c (h .0) in
+    let rest : countAt (afterAll (after w c) cs) + consumedBy (unitsAll (after w c) cs) ≡ countAt (after w c) + length (fedAll (after w c) cs) = conserved (after w c) cs (h .1) in
+    let u : consumedBy (unitsOf w c ++ unitsAll (after w c) cs) ≡ consumedBy (unitsOf w c) + consumedBy (unitsAll (after w c) cs) = consumed-append (unitsOf w c) (unitsAll (after w c) cs) in
+    let l : length (fed w c ++ fedAll (after w c) cs) ≡ length (fed w c) + length (fedAll (after w c) cs) = length-append (fed w c) (fedAll (after w c) cs) in
+    omega arith
