@@ -49,8 +49,7 @@ module _ (ring : List ℕ) (s : State) where
   flow-found (unit c m n) e =
       let u = step-unit c m n e in
       let p : Passes s (length ring) = u .0 in
-      let f = unit-fits ring s (p .ready) c m n (sym (u .1)) in
-      (
+      let f = unit-fits ring s (p .ready) c m n (sym (u .1)) in (
         reads-pending (s .fifo) ring (p .ready) .drop-is n (f .1 .0) ∙ ap (λ (k : ℕ). drop k (queueOf ring s)) (sym (add-zero n)),
         omega (arith, f .1 .0, length-pending (s .fifo .window) ring),
       )

@@ -1,2 +1,4 @@
 pub mod Flow
 pub mod Conserved
+pub mod More
+pub mod Fed
