@@ -4,3 +4,4 @@ pub mod Remainder
 pub mod Filled
 pub mod Front
 pub mod Tests
+pub mod Bits

@@ -1,0 +1,4 @@
+pub mod Patch
+pub mod Registers
+pub mod Commands
+pub mod Answers
