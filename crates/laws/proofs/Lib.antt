@@ -5,3 +5,4 @@ pub mod Filled
 pub mod Front
 pub mod Tests
 pub mod Bits
+pub mod Pieces

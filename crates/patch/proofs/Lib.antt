@@ -1,3 +1,5 @@
 pub mod Faults
 pub mod Masked
 pub mod Algebra
+pub mod Loads
+pub mod Writing

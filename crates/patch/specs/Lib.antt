@@ -2,3 +2,4 @@ pub mod Patch
 pub mod Registers
 pub mod Commands
 pub mod Answers
+pub mod Writing
