@@ -3,3 +3,4 @@ pub mod Masked
 pub mod Algebra
 pub mod Loads
 pub mod Writing
+pub mod Execution
