@@ -1,6 +1,6 @@
 -- Numbers by their bits: the bits of `bitAnd`, `bitOr` and `bitXor`, and numbers with the same bits.
 use mathlib.Core.Path.{_≡_, refl, sym, ap, ap₂, _∙_, subst}
-use mathlib.Core.Bool.{Bool, true, false, _&&_, _||_}
+use mathlib.Core.Bool.{false, _&&_, _||_}
 use Prim.Native.Nat.{ℕ, zero, suc, _+_, _*_, _/_, _%_, _^_, _<_}
 use native.Mathlib.Nat.{zero-lt-suc, mod-lt, div-one, div-add-mod', div-eq-of-lt}
 use native.Mathlib.Numerals.{add-one, one-add}

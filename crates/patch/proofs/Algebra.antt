@@ -1,13 +1,12 @@
 -- Merging and applying patches: grouping, one merged patch for two in turn, and when two patches may change places.
 use mathlib.Core.Path.{_≡_, refl, sym, ap, ap₂, _∙_}
 use mathlib.Core.Logic.{_↔_}
-use mathlib.Core.List.{List, [], _∷_}
-use Prim.Native.Nat.{ℕ, _^_, _<_}
+use mathlib.Core.List.{List, []}
+use Prim.Native.Nat.{ℕ, _<_}
 use lib.Dec.{lit<}
 use lib.Bits.{bitOr, or-lt}
 use lib.ListN.{length, getD}
 use lib.Seq.{ext-getD}
-use Rattle.laws.specs.Values.{upTo}
 use Rattle.laws.proofs.Filled.{length-upTo, getD-upTo}
 use Rattle.laws.proofs.Front.{upTo-ext}
 use Rattle.effect.specs.Effect.{masked, maskPlace}

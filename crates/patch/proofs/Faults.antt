@@ -1,6 +1,6 @@
 -- The search for faults, register by register, and what it says of a patch in which nothing is found.
 use mathlib.Core.Path.{_≡_, refl, sym, ap, ap₂, _∙_, subst}
-use mathlib.Core.Logic.{_↔_, _⊎_, inl, inr}
+use mathlib.Core.Logic.{inl, inr}
 use mathlib.Core.Bool.{Bool, true, false, cond, not, _&&_, _||_, false≢true}
 use mathlib.Core.List.{List}
 use Prim.Native.Nat.{ℕ, zero, suc, _+_, _-_, _^_, _≤_, _<_}
@@ -10,13 +10,13 @@ use native.Mathlib.Omega.{arith}
 use lib.Bits.{bitAnd, and-le-r}
 use lib.Dec.{eqb, ltb, lit<}
 use lib.ListN.{length}
-use borrow.Author.Tests.{eqb-true, eqb-false, ltb-false, eq-eqb, ne-eqb, le-ltb}
-use Rattle.laws.proofs.Cases.{and-left, and-right, or-left, or-right, not-false}
+use borrow.Author.Tests.{eqb-true, ltb-false, eq-eqb, ne-eqb, le-ltb}
+use Rattle.laws.proofs.Cases.{or-left, or-right, not-false}
 use Rattle.refusal.specs.Number.{number}
 use Rattle.refusal.specs.declared.Reason.{Reason}
 use Rattle.refusal.proofs.Positive.{number-some}
 use Rattle.effect.specs.Effect.{maskPlace}
-use Rattle.patch.specs.Patch.{bpCount, Patch, patchOf, maskAt, numberAt, isSized, faultAt, orElse, faultFrom, faultOf, IsAccepted}
+use Rattle.patch.specs.Patch.{bpCount, Patch, patchOf, maskAt, numberAt, faultAt, orElse, faultFrom, faultOf, IsAccepted}
 
 -- ---- for the search's loop
 
@@ -33,7 +33,8 @@ module _ (ms ns : List ℕ) where
   unfolding faultOf
   fault-sized h k = rw (eq-eqb (length ms) bpCount h, eq-eqb (length ns) bpCount k)
 
-or-some : (f g : ℕ) → 1 ≤ f → orElse f g ≡ f
+-- a fault that is one comes first
+pub or-some : (f g : ℕ) → 1 ≤ f → orElse f g ≡ f
 or-some zero g h = absurd (omega arith)
 or-some (suc f) g h = refl
 

@@ -4,3 +4,4 @@ pub mod Algebra
 pub mod Loads
 pub mod Writing
 pub mod Execution
+pub mod Stream

@@ -2,7 +2,7 @@
 use mathlib.Core.Path.{_≡_, refl, sym, ap, ap₂, _∙_, subst}
 use mathlib.Core.Bool.{false, cond}
 use mathlib.Core.List.{List, [], _∷_, _++_, append-assoc, append-nil}
-use Prim.Native.Nat.{ℕ, zero, suc, _+_, _-_, _^_, _≤_, _<_, zero-le}
+use Prim.Native.Nat.{ℕ, zero, suc, _+_, _-_, _^_, _≤_, _<_}
 use native.Mathlib.Numerals.{add-one}
 use native.Mathlib.Omega.{arith}
 use lib.Dec.{eqb, ltb}
@@ -19,10 +19,11 @@ use Rattle.effect.specs.Effect.{maskPlace}
 use Rattle.writer.specs.declared.Written.{Written}
 use Rattle.writer.specs.declared.Written.the-variants.{Bytes, Refused}
 use Rattle.writer.specs.Write.{commandBytes, placed, Writes}
-use Rattle.patch.specs.Patch.{bpCount, Patch, maskAt, numberAt, faultOf, orElse, IsAccepted}
+use Rattle.patch.specs.Patch.{bpCount, Patch, maskAt, numberAt, faultOf, IsAccepted}
 use Rattle.patch.specs.Commands.{commandsAt, commandsFrom, commandsOf, bytesOfCommands, patchBytes}
 use Rattle.patch.specs.Answers.{writeRefusal, WritesPatch}
 use Rattle.patch.specs.Writing.{sizeAt, sizeFrom, Puts}
+use Rattle.patch.proofs.Faults.{or-some}
 use Rattle.patch.proofs.Loads.{load-length, load-written}
 
 -- the bytes of commands are those of the first, then those of the others
@@ -164,10 +165,6 @@ module _ (p : Patch) (out : List ℕ) where
   refuses r e =
       let f : eqb (writeRefusal p (length out)) 0 ≡ false = ne-eqb (writeRefusal p (length out)) 0 (λ z. omega (arith, number-some r)) in
       record { answer-is = rw f (ap (λ (n : ℕ). n ∷ []) (sym e)); out-is = rw f }
-
-  or-some : (f g : ℕ) → 1 ≤ f → orElse f g ≡ f
-  or-some zero g h = absurd (omega arith)
-  or-some (suc f) g h = refl
 
   pub by-fault : (r : Reason) → number r ≡ faultOf p → WritesPatch p out (Refused r) out
   unfolding writeRefusal

@@ -3,3 +3,4 @@ pub mod Registers
 pub mod Commands
 pub mod Answers
 pub mod Writing
+pub mod Stream

@@ -1,7 +1,5 @@
 -- `patch::fault_at` meets its contract: the tests are the definition's, in its order.
-use mathlib.Core.Path.{_≡_, refl}
 use borrow.Author.Tests.{eq-eqb, ne-eqb, lt-ltb, le-ltb}
-use borrow.Author.Needs.{needs}
 use Rattle.patch.specs.Patch.{faultAt}
 use Rattle.patch.proofs.fault_at.Statement.{statement}
 use Rattle.patch.proofs.fault_at.Tie as tie

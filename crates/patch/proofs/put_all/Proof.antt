@@ -1,9 +1,8 @@
 -- `patch::put_all` meets its contract: the registers before r are written, and the next load goes into what is left.
-use mathlib.Core.Path.{_≡_, sym, ap, _∙_}
-use Prim.Native.Nat.{ℕ, _+_, _*_, _-_, _≤_, _<_}
+use mathlib.Core.Path.{_≡_}
+use Prim.Native.Nat.{ℕ, _+_, _-_, _≤_, _<_}
 use native.Mathlib.Omega.{arith}
 use borrow.Author.Needs.{needs}
-use lib.ListN.{length, getD}
 use mathlib.Core.List.{List, [], _++_}
 use Rattle.laws.proofs.Pieces.{Pieces}
 use Rattle.patch.specs.Commands.{patchBytes}
@@ -11,7 +10,7 @@ use Rattle.patch.proofs.Writing.{load-fits, bytesFrom}
 use Rattle.writer.specs.Write.{commandBytes}
 use Rattle.effect.specs.Effect.{maskPlace}
 use Rattle.command.specs.Command.{loadBp}
-use Rattle.laws.proofs.Pieces.{pieces-fit, pieces-length}
+use Rattle.laws.proofs.Pieces.{pieces-length}
 use Rattle.patch.proofs.Faults.{Sound, sound, number-small}
 use Rattle.patch.proofs.Writing.{Writing, writing-none, writing-skip, writing-named, writing-put, writing-all}
 use Rattle.patch.specs.Patch.{bpCount, Patch, patchOf, maskAt, numberAt}

@@ -1,6 +1,6 @@
 -- `patch::write` meets its contract: an accepted patch that fits is written whole, and nothing is written before both are known.
 use borrow.Author.Needs.{needs}
-use mathlib.Core.Path.{_≡_, sym, ap, _∙_}
+use mathlib.Core.Path.{sym, ap, _∙_}
 use native.Mathlib.Omega.{arith}
 use Rattle.patch.proofs.Writing.{by-fault, by-room, by-writing}
 use Rattle.patch.proofs.Faults.{sound}
