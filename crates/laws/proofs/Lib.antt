@@ -4,3 +4,5 @@ pub mod Remainder
 pub mod Filled
 pub mod Front
 pub mod Tests
+pub mod Bits
+pub mod Pieces

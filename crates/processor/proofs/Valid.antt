@@ -22,29 +22,30 @@ use Rattle.processor.proofs.Stays.{bp-stays, cp-stays, draw-stays}
 pub queue-octets : (ring : List ℕ) (s : State) → Octets ring → Octets (queueOf ring s)
 queue-octets ring s o k = pending-each (λ (x : ℕ). x < 256) (s .fifo .window) ring (lit< tt) o k
 
+-- a command whose fields fit their registers
+pub executed-passes : (ring : List ℕ) (s : State) (c : List ℕ) (n : ℕ) → Ranged c → Passes s (length ring) → Passes (executed ring s c n) (length ring)
+unfolding executed consume
+executed-passes ring s c n r p =
+    let u : List ℕ = take n (queueOf ring s) in
+    record {
+      ready = ready-consume (s .fifo) (length ring) (p .ready) n;
+      control = p .control;
+      bp = bp-stays c (s .bp) r (p .bp);
+      cp = cp-stays c (s .cp) (p .cp);
+      draw = draw-stays c (s .draw) r (p .draw);
+      xf = length-xf c u (s .xf) ∙ p .xf;
+      buffer = rw (length-buffer c u (s .buffer)) (p .buffer);
+      enabled = p .enabled;
+      unlinked = p .unlinked;
+    }
+
 module _ (ring : List ℕ) (o : Octets ring) (s : State) where
   ranged : (c : List ℕ) (m n : ℕ) → unit c m n ≡ lookAt ring s → Ranged c
   unfolding lookAt
   ranged c m n e = subst Ranges (sym e) (look-ranges (queueOf ring s) (queue-octets ring s o) (length (queueOf ring s)) (s .cp) (s .draw))
 
-  executed-passes : (c : List ℕ) (n : ℕ) → Ranged c → Passes s (length ring) → Passes (executed ring s c n) (length ring)
-  unfolding executed consume
-  executed-passes c n r p =
-      let u : List ℕ = take n (queueOf ring s) in
-      record {
-        ready = ready-consume (s .fifo) (length ring) (p .ready) n;
-        control = p .control;
-        bp = bp-stays c (s .bp) r (p .bp);
-        cp = cp-stays c (s .cp) (p .cp);
-        draw = draw-stays c (s .draw) r (p .draw);
-        xf = length-xf c u (s .xf) ∙ p .xf;
-        buffer = rw (length-buffer c u (s .buffer)) (p .buffer);
-        enabled = p .enabled;
-        unlinked = p .unlinked;
-      }
-
   pub after-passes : (found : Found) → found ≡ lookAt ring s → Passes s (length ring) → Passes (after ring s found) (length ring)
-  after-passes (unit c m n) e p = executed-passes c n (ranged c m n e) p
+  after-passes (unit c m n) e p = executed-passes ring s c n (ranged c m n e) p
   after-passes (waiting k) e p = p
   after-passes (refused r) e p = p
 

@@ -1,12 +1,12 @@
 -- "Worked numbers": the starred ones as one table. One computed test compares what the definitions give with what document 01 says.
 -- A row that a later crate brings is added to `rows`, and the definitions that it opens to the line under `worked`.
-use mathlib.Core.Path.{_≡_, refl}
+use mathlib.Core.Path.{_≡_, refl, ap, _∙_}
 use mathlib.Core.List.{List, [], _∷_}
 use Prim.Native.Nat.{ℕ, _+_, _*_, _^_}
-use lib.ListN.{getD}
+use lib.ListN.{getD, set, replicate}
 use lib.Ieee.{round, toBits}
 use Rattle.laws.specs.Values.{upTo}
-use Rattle.octets.specs.BigEndian.{bigEndian}
+use Rattle.octets.specs.BigEndian.{bigEndian, bytesOf}
 use Rattle.component.specs.Component.{componentOf}
 use Rattle.layout.specs.declared.Descriptor.{Descriptor}
 use Rattle.layout.specs.Fields.{bitsAt, modes, counts, formats, shifts, modeOf, countOf, formatOf, fractionBits, fractionOf, indicesOf}
@@ -14,6 +14,10 @@ use Rattle.layout.specs.Sizes.{directOf, sizeOf, offsetOf, unknownAt, anyUnknow
 use Rattle.layout.specs.Answers.{refusalOf, lengthOf}
 use Rattle.vertex.specs.Attributes.{rawAt, componentAt, paddedList, componentList, directList, attributeList}
 use Rattle.vertex.specs.Answers.{refusalAt, decodingOf}
+use Rattle.effect.specs.Effect.{masked, maskPlace, storedBp, loadedBp}
+use Rattle.writer.specs.Write.{headOf, wordsOf, wordBytes, commandBytes}
+use Rattle.patch.specs.Patch.{Patch, patchOf, bpCount, mergedOf}
+use Rattle.patch.specs.Commands.{commandsAt, commandsFrom, commandsOf, bytesOfCommands, patchBytes}
 
 -- VCD groups 0 and 1, VAT groups 0, 1 and 2
 abbrev words : ℕ → ℕ → ℕ → ℕ → ℕ → Descriptor
@@ -34,6 +38,10 @@ largest =
 abbrev first : ℕ → ℕ → ℕ → List ℕ → ℕ
 first format shift bit30 bytes = getD (decodingOf (named 0x200 (2 * format + 16 * shift + bit30 * 2 ^ 30)) 9 bytes) 2 0
 
+-- BP registers that are zero but for one
+abbrev only : ℕ → ℕ → List ℕ
+only r n = set (replicate bpCount 0) r n
+
 -- a row: what a definition gives, and what document 01 says
 pub data Row : Type 0 where
   row : ℕ → ℕ → Row
@@ -48,6 +56,8 @@ rows =
     ∷ row (sizeOf (named 0x1800 0x80000200) 10) 6
     ∷ row (sizeOf (named 0x1800 0x80000000) 10) 2
     ∷ row (sizeOf (named 0x1800 0x200) 10) 2
+    ∷ row (getD (loadedBp (loadedBp (only maskPlace 0xFFFFFF) maskPlace 0x0000F0) maskPlace 0x00003C) maskPlace 0) 0x000030
+    ∷ row (masked 0x123450 0x00000F 0x0000A5) 0x123455
     ∷ row (first 1 6 1 (0x80 ∷ 0 ∷ [])) 0xC0000000
     ∷ row (first 2 16 0 (0xFF ∷ 0xFF ∷ 0 ∷ 0 ∷ [])) 0x3F7FFF00
     ∷ row (first 3 31 0 (0xFF ∷ 0xFF ∷ 0 ∷ 0 ∷ [])) 0xB0000000
@@ -67,4 +77,29 @@ pub worked : given rows ≡ said rows
 unfolding rows given said bitsAt modes counts formats shifts modeOf countOf formatOf fractionBits fractionOf indicesOf
     directOf sizeOf offsetOf unknownAt anyUnknown refusalOf lengthOf
     refusalAt attributeList directList componentList paddedList componentAt rawAt bigEndian componentOf upTo round toBits
+    masked storedBp loadedBp
 worked = refl
+
+-- ---- the two patches of "Sheets and the writer"
+
+-- a patch of register 41 alone
+abbrev alone : ℕ → ℕ → Patch
+alone mask n = patchOf (only 0x41 mask) (only 0x41 n)
+
+-- "Mask 00000F and number 000005 at 41, alone, give, whole: 61 FE 00 00 0F 61 41 00 00 05."
+pub worked-alone : patchBytes (alone 0x00000F 0x000005) ≡ 0x61 ∷ 0xFE ∷ 0x00 ∷ 0x00 ∷ 0x0F ∷ 0x61 ∷ 0x41 ∷ 0x00 ∷ 0x00 ∷ 0x05 ∷ []
+unfolding patchBytes commandsOf commandsFrom commandsAt bytesOfCommands commandBytes headOf wordsOf wordBytes bytesOf
+worked-alone = refl
+
+merged-alone : mergedOf (alone 0x00000F 0x000005) (alone 0x0000F0 0x000030) ≡ alone 0x0000FF 0x000035
+unfolding mergedOf masked upTo
+merged-alone = refl
+
+merged-bytes : patchBytes (alone 0x0000FF 0x000035) ≡ 0x61 ∷ 0xFE ∷ 0x00 ∷ 0x00 ∷ 0xFF ∷ 0x61 ∷ 0x41 ∷ 0x00 ∷ 0x00 ∷ 0x35 ∷ []
+unfolding patchBytes commandsOf commandsFrom commandsAt bytesOfCommands commandBytes headOf wordsOf wordBytes bytesOf
+merged-bytes = refl
+
+-- "Merged with mask 0000F0, number 000030 it gives: 61 FE 00 00 FF 61 41 00 00 35."
+pub worked-merged : patchBytes (mergedOf (alone 0x00000F 0x000005) (alone 0x0000F0 0x000030))
+    ≡ 0x61 ∷ 0xFE ∷ 0x00 ∷ 0x00 ∷ 0xFF ∷ 0x61 ∷ 0x41 ∷ 0x00 ∷ 0x00 ∷ 0x35 ∷ []
+worked-merged = ap patchBytes merged-alone ∙ merged-bytes

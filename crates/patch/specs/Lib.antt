@@ -1,0 +1,6 @@
+pub mod Patch
+pub mod Registers
+pub mod Commands
+pub mod Answers
+pub mod Writing
+pub mod Stream
