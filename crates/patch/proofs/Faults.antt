@@ -10,8 +10,8 @@ use native.Mathlib.Omega.{arith}
 use lib.Bits.{bitAnd, and-le-r}
 use lib.Dec.{eqb, ltb, lit<}
 use lib.ListN.{length}
-use borrow.Author.Tests.{eqb-true, ltb-false, eq-eqb, ne-eqb, le-ltb}
-use Rattle.laws.proofs.Cases.{or-left, or-right, not-false}
+use borrow.Author.Tests.{not-false, eqb-true, ltb-false, eq-eqb, ne-eqb, le-ltb}
+use Rattle.laws.proofs.Cases.{or-left, or-right}
 use Rattle.refusal.specs.Number.{number}
 use Rattle.refusal.specs.declared.Reason.{Reason}
 use Rattle.refusal.proofs.Positive.{number-some}

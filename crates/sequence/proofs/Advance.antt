@@ -1,0 +1,150 @@
+-- The history of a list of calls: the loads that were executed, and the bytes of those that are left.
+use mathlib.Core.Path.{_≡_, refl, sym, ap, _∙_, subst}
+use mathlib.Core.Logic.{_⊎_, inl, inr, ⊎-elim}
+use mathlib.Core.List.{List, [], _∷_, _++_, append-nil, append-assoc}
+use Prim.Native.Nat.{ℕ, zero, suc, _+_, _^_, min, _<_}
+use native.Mathlib.Omega.{arith}
+use lib.ListN.{length, getD, drop, take, length-append}
+use Rattle.command.specs.declared.Draw.the-variants.{Closed}
+use Rattle.command.specs.Command.{Found, unit, waiting, refused, kindOf, fieldOf, loadBp}
+use Rattle.command.specs.Look.{unlessRefused, lookOf}
+use Rattle.command.proofs.Ranges.{Ranged}
+use Rattle.effect.specs.Effect.{bpAfter}
+use Rattle.fifo.proofs.CursorLaws.{reads-pending}
+use Rattle.processor.specs.State.{State}
+use Rattle.processor.specs.Gate.{gateOf}
+use Rattle.processor.specs.Step.{queueOf, lookAt, executed, stepFound, stepOf}
+use Rattle.processor.specs.Step as S
+use Rattle.processor.specs.Run.{Ended, goneOn, steps, gated, runLimit, runOf}
+use Rattle.processor.proofs.Passing.{Passes, gate-passes, passes-gate}
+use Rattle.processor.proofs.Bridge.{unit-fits}
+use Rattle.processor.proofs.Valid.{executed-passes}
+use Rattle.patch.specs.Commands.{bytesOfCommands, bpAfterAll}
+use Rattle.patch.specs.Stream.{IsLoad, AllLoads, Begins}
+use Rattle.patch.proofs.Stream.{look-either}
+use Rattle.patch.proofs.Execution.{after-append}
+use Rattle.patch.proofs.Loads.{load-cp, load-xf, load-draw}
+
+-- from s to t, over a ring, with bytes that come later: of the loads left some were executed, and the rest are still to come
+pub record Advance (ring : List ℕ) (s t : State) (later : List ℕ) (left : List (List ℕ)) : Type 0 where
+  pub done : List (List ℕ)
+  pub still : List (List ℕ)
+  pub split : left ≡ done ++ still
+  pub loads : AllLoads still
+  pub bp-is : t .bp ≡ bpAfterAll done (s .bp)
+  pub cp-is : t .cp ≡ s .cp
+  pub xf-is : t .xf ≡ s .xf
+  pub closed : t .draw ≡ Closed
+  pub passes : Passes t (length ring)
+  pub queue-is : queueOf ring t ++ later ≡ bytesOfCommands still
+
+-- what a state must be to begin with
+pub record Ahead (ring : List ℕ) (s : State) (later : List ℕ) (left : List (List ℕ)) : Type 0 where
+  pub loads : AllLoads left
+  pub closed : s .draw ≡ Closed
+  pub passes : Passes s (length ring)
+  pub queue-is : queueOf ring s ++ later ≡ bytesOfCommands left
+
+module _ {ring : List ℕ} {s : State} {later : List ℕ} {left : List (List ℕ)} (a : Ahead ring s later left) where
+  pub advance-none : Advance ring s s later left
+  unfolding bpAfterAll
+  advance-none =
+      record {
+        done = [];
+        still = left;
+        split = refl;
+        loads = a .loads;
+        bp-is = refl;
+        cp-is = refl;
+        xf-is = refl;
+        closed = a .closed;
+        passes = a .passes;
+        queue-is = a .queue-is;
+      }
+
+pub advance-ahead : {ring : List ℕ} {s t : State} {later : List ℕ} {left : List (List ℕ)} (v : Advance ring s t later left) → Ahead ring t later (v .still)
+advance-ahead v = record { loads = v .loads; closed = v .closed; passes = v .passes; queue-is = v .queue-is }
+
+pub advance-then : {ring : List ℕ} {s t r : State} {later : List ℕ} {left : List (List ℕ)} (v : Advance ring s t later left) → Advance ring t r later (v .still)
+    → Advance ring s r later left
+advance-then {s = s} v u =
+    record {
+      done = v .done ++ u .done;
+      still = u .still;
+      split = v .split ∙ ap (λ (x : List (List ℕ)). v .done ++ x) (u .split) ∙ sym (append-assoc (v .done) (u .done) (u .still));
+      loads = u .loads;
+      bp-is = u .bp-is ∙ ap (bpAfterAll (u .done)) (v .bp-is) ∙ sym (after-append (v .done) (u .done) (s .bp));
+      cp-is = u .cp-is ∙ v .cp-is;
+      xf-is = u .xf-is ∙ v .xf-is;
+      closed = u .closed;
+      passes = u .passes;
+      queue-is = u .queue-is;
+    }
+
+-- a load of 24 bits fits its register
+load-ranged : (register n : ℕ) → n < 2 ^ 24 → Ranged (loadBp register n)
+load-ranged register n h = record { bp = λ _. h; head = λ e. absurd (omega (arith, e)) }
+
+module _ {ring : List ℕ} {s : State} {later : List ℕ} {left : List (List ℕ)} (a : Ahead ring s later left) where
+  abbrev q : List ℕ
+  q = queueOf ring s
+
+  found-is : {x : Found} → lookOf q (length q) (s .cp) Closed ≡ x → lookAt ring s ≡ x
+  unfolding lookAt
+  found-is e = rw (a .closed) e
+
+  -- a whole load at the front is executed
+  advance-unit : Begins q later (s .cp) left → Advance ring s (S.after ring s (lookAt ring s)) later left
+  unfolding executed bpAfterAll
+  advance-unit b =
+      let c : List ℕ = b .command in
+      let l : IsLoad c = b .load in
+      let f : lookAt ring s ≡ unit c 0 5 = found-is (b .look-is) in
+      let fits = unit-fits ring s (a .passes .ready) c 0 5 (sym f) in
+      let ranged : Ranged c = rw (l .load-is) (load-ranged (l .register) (l .number) (l .narrow)) in
+      rw f
+      (record {
+        done = c ∷ [];
+        still = b .others;
+        split = b .first-is;
+        loads = b .loads;
+        bp-is = refl;
+        cp-is = rw (l .load-is) (load-cp (l .register) (l .number) (s .cp));
+        xf-is = rw (l .load-is) (load-xf (l .register) (l .number) (take 5 q) (s .xf));
+        closed = rw (l .load-is) (load-draw (l .register) (l .number) (s .draw) ∙ a .closed);
+        passes = executed-passes ring s c 5 ranged (a .passes);
+        queue-is = ap (λ (x : List ℕ). x ++ later) (reads-pending (s .fifo) ring (a .passes .ready) .drop-is 5 (fits .1 .0)) ∙ b .rest-is;
+      })
+
+  advance-look : Advance ring s (S.after ring s (lookAt ring s)) later left
+  advance-look =
+      ⊎-elim advance-unit (λ h. rw (found-is (h .1)) (advance-none a)) (look-either q later (s .cp) left (a .loads) (a .queue-is))
+
+  -- past the gate a step finds what the queue begins with
+  step-is : stepFound ring s ≡ lookAt ring s
+  unfolding stepFound
+  step-is = ap (λ (r : ℕ). unlessRefused r (lookAt ring s)) (passes-gate s (length ring) (a .passes))
+
+  pub advance-step : Advance ring s (stepOf ring s) later left
+  unfolding stepOf
+  advance-step = rw step-is advance-look
+
+-- ---- a run
+gone-state : (found : Found) (s : State) (e : Ended) → (goneOn found s e .state ≡ e .state) ⊎ (goneOn found s e .state ≡ s)
+gone-state (unit c m n) s e = inl refl
+gone-state (waiting k) s e = inr refl
+gone-state (refused r) s e = inr refl
+
+pub advance-steps : (n : ℕ) {ring : List ℕ} {s : State} {later : List ℕ} {left : List (List ℕ)} → Ahead ring s later left
+    → Advance ring s (steps ring n s .state) later left
+unfolding steps
+advance-steps zero a = advance-none a
+advance-steps (suc n) {ring} {s} a =
+    let v = advance-step a in
+    let rest = advance-steps n (advance-ahead v) in
+    ⊎-elim (λ e. rw e (advance-then v rest)) (λ e. rw e (advance-none a)) (gone-state (stepFound ring s) s (steps ring n (stepOf ring s)))
+
+pub advance-run : (limit : ℕ) {ring : List ℕ} {s : State} {later : List ℕ} {left : List (List ℕ)} → Ahead ring s later left
+    → Advance ring s (runOf ring limit s .state) later left
+unfolding runOf
+advance-run limit {ring} {s} a = rw (passes-gate s (length ring) (a .passes)) (advance-steps (min limit runLimit) a)

@@ -1,0 +1,164 @@
+-- Demand 3, over the calls' own definitions.
+use mathlib.Core.Path.{_≡_, refl, sym, ap, _∙_, subst}
+use mathlib.Core.List.{List, [], _∷_, _++_, append-nil, append-assoc}
+use mathlib.Core.Logic.{_↔_}
+use Prim.Native.Nat.{ℕ, _+_, _^_, _<_, _≤_}
+use native.Mathlib.Omega.{arith}
+use lib.Dec.{lit<}
+use lib.ListN.{length, getD, length-append}
+use Rattle.command.specs.declared.Draw.the-variants.{Closed}
+use Rattle.laws.proofs.Cases.{cond-both}
+use Rattle.writer.specs.Write.{commandBytes}
+use Rattle.fifo.specs.declared.Fifo.{Fifo}
+use Rattle.fifo.specs.Registers.{stored, writable, written}
+use Rattle.fifo.proofs.FeedLaws.{pending-after}
+use Rattle.processor.specs.State.{State}
+use Rattle.processor.specs.Gate.{bpFits}
+use Rattle.processor.proofs.Below.{below-at}
+use Rattle.processor.proofs.Passing.{Passes, gate-passes, passes-gate}
+use Rattle.history.specs.Calls.{World, Call, feed, step, run, write, read, queue, after, fed, afterAll, fedAll}
+use Rattle.history.proofs.Fed.{feed-longer}
+use Rattle.patch.specs.Patch.{Patch, bpCount, IsAccepted, AllAccepted, appliedTo, mergedOf, mergedAll}
+use Rattle.patch.specs.Registers.{Open, Agree}
+use Rattle.patch.specs.Commands.{commandsOfAll, bytesOfCommands, bytesOfPatches, bpAfterAll}
+use Rattle.patch.specs.Stream.{IsLoad, AllLoads}
+use Rattle.patch.proofs.Stream.{five-bytes, patches-loads, patches-bytes}
+use Rattle.patch.proofs.Execution.{after-append, executed-all, merged-swap}
+use Rattle.sequence.specs.Promise.{Start, Listed, AllListed, Delivers, SameRegisters, RulesGive}
+use Rattle.sequence.proofs.Advance.{Advance, Ahead, advance-none, advance-step, advance-run}
+
+-- from one world to another: of the loads left some were executed, and the rest come with what is pending and what comes later
+pub record Moves (w v : World) (later : List ℕ) (left : List (List ℕ)) : Type 0 where
+  pub done : List (List ℕ)
+  pub still : List (List ℕ)
+  pub split : left ≡ done ++ still
+  pub loads : AllLoads still
+  pub bp-is : v .state .bp ≡ bpAfterAll done (w .state .bp)
+  pub cp-is : v .state .cp ≡ w .state .cp
+  pub xf-is : v .state .xf ≡ w .state .xf
+  pub closed : v .state .draw ≡ Closed
+  pub passes : Passes (v .state) (length (v .ring))
+  pub queue-is : queue v ++ later ≡ bytesOfCommands still
+
+by-advance : {w : World} {t : State} {later : List ℕ} {left : List (List ℕ)} → Advance (w .ring) (w .state) t later left
+    → Moves w (record { state = t; ring = w .ring }) later left
+by-advance v =
+    record {
+      done = v .done;
+      still = v .still;
+      split = v .split;
+      loads = v .loads;
+      bp-is = v .bp-is;
+      cp-is = v .cp-is;
+      xf-is = v .xf-is;
+      closed = v .closed;
+      passes = v .passes;
+      queue-is = v .queue-is;
+    }
+
+-- a clear changes nothing
+clear-kept : (f : Fifo) (value : ℕ) → written f 4 value ≡ f
+unfolding written stored
+clear-kept f value = cond-both (λ (g : Fifo). g ≡ f) (writable 4) (λ _. refl) (λ _. refl)
+
+-- one call
+call-moves : (w : World) (c : Call) (later : List ℕ) (left : List (List ℕ)) → Listed c → Ahead (w .ring) (w .state) (fed w c ++ later) left
+    → Moves w (after w c) later left
+unfolding bpAfterAll
+call-moves w (feed bytes) later left h a =
+    let f = feed-longer w bytes in
+    let g = f .gate-is ∙ passes-gate (w .state) (length (w .ring)) (a .passes) in
+    record {
+      done = [];
+      still = left;
+      split = refl;
+      loads = a .loads;
+      bp-is = refl;
+      cp-is = refl;
+      xf-is = refl;
+      closed = a .closed;
+      passes = gate-passes (after w (feed bytes) .state) (length (after w (feed bytes) .ring)) g;
+      queue-is =
+          ap (λ (x : List ℕ). x ++ later) (f .queue-is) ∙ append-assoc (queue w) (fed w (feed bytes)) later ∙ a .queue-is;
+    }
+call-moves w step later left h a = by-advance (advance-step a)
+call-moves w (run limit) later left h a = by-advance (advance-run limit a)
+call-moves w (write offset value) later left h a = rw (h, clear-kept (w .state .fifo) value) (by-advance (advance-none a))
+call-moves w (read offset) later left h a = absurd h
+
+-- a list of calls
+all-moves : (cs : List Call) (w : World) (left : List (List ℕ)) → AllListed cs → Ahead (w .ring) (w .state) (fedAll w cs) left
+    → Moves w (afterAll w cs) [] left
+unfolding afterAll fedAll
+all-moves [] w left h a = by-advance (advance-none a)
+all-moves (c ∷ cs) w left h a =
+    let m : Moves w (after w c) (fedAll (after w c) cs) left = call-moves w c (fedAll (after w c) cs) left (h .0) a in
+    let b : Ahead (after w c .ring) (after w c .state) (fedAll (after w c) cs) (m .still) =
+    record { loads = m .loads; closed = m .closed; passes = m .passes; queue-is = m .queue-is } in
+    let n : Moves (after w c) (afterAll (after w c) cs) [] (m .still) = all-moves cs (after w c) (m .still) (h .1) b in
+    record {
+      done = m .done ++ n .done;
+      still = n .still;
+      split = m .split ∙ ap (λ (x : List (List ℕ)). m .done ++ x) (n .split) ∙ sym (append-assoc (m .done) (n .done) (n .still));
+      loads = n .loads;
+      bp-is = n .bp-is ∙ ap (bpAfterAll (n .done)) (m .bp-is) ∙ sym (after-append (m .done) (n .done) (w .state .bp));
+      cp-is = n .cp-is ∙ m .cp-is;
+      xf-is = n .xf-is ∙ m .xf-is;
+      closed = n .closed;
+      passes = n .passes;
+      queue-is = n .queue-is;
+    }
+
+-- loads without a byte are none
+no-bytes : (cs : List (List ℕ)) → AllLoads cs → bytesOfCommands cs ≡ [] → cs ≡ []
+unfolding bytesOfCommands
+no-bytes [] h e = refl
+no-bytes (c ∷ cs) h e =
+    let l : length (commandBytes c [] ++ bytesOfCommands cs) ≡ 0 = ap (λ (x : List ℕ). length x) e in
+    absurd (omega (arith, length-append (commandBytes c []) (bytesOfCommands cs), five-bytes c (h .0)))
+
+-- registers that 1 does not refuse, with the mask at FFFFFF
+pub start-open : (w : World) → Start w → Open (w .state .bp)
+unfolding bpFits
+start-open w st =
+    let p : Passes (w .state) (length (w .ring)) = gate-passes (w .state) (length (w .ring)) (st .passes) in
+    record { size = st .size; wide = λ r h. below-at (2 ^ 24) (w .state .bp) (lit< tt) (p .bp) r; unmasked = st .unmasked }
+
+module _ (w : World) (cs : List Call) (ps : List Patch) (st : Start w) (d : Delivers w cs ps) where
+  left : List (List ℕ)
+  left = commandsOfAll ps
+
+  all-ahead : Ahead (w .ring) (w .state) (fedAll w cs) left
+  unfolding left
+  all-ahead =
+      record {
+        loads = patches-loads ps (d .accepted);
+        closed = st .closed;
+        passes = gate-passes (w .state) (length (w .ring)) (st .passes);
+        queue-is = ap (λ (x : List ℕ). x ++ fedAll w cs) (st .empty) ∙ d .fed-is ∙ patches-bytes ps;
+      }
+
+  -- "After the list the BP, CP and XF registers are those that the rules give for one merged sheet, a later sheet's bits winning."
+  pub promise : RulesGive w (mergedAll ps) (afterAll w cs)
+  unfolding left
+  promise =
+      let m : Moves w (afterAll w cs) [] left = all-moves cs w left (d .listed) all-ahead in
+      let none : m .still ≡ [] = no-bytes (m .still) (m .loads) (sym (m .queue-is) ∙ append-nil (queue (afterAll w cs)) ∙ d .emptied) in
+      let all : left ≡ m .done = m .split ∙ ap (λ (x : List (List ℕ)). m .done ++ x) none ∙ append-nil (m .done) in
+      record {
+        bp-is = m .bp-is ∙ ap (λ (x : List (List ℕ)). bpAfterAll x (w .state .bp)) (sym all) ∙ executed-all ps (w .state .bp) (d .accepted) (start-open w st);
+        cp-is = m .cp-is;
+        xf-is = m .xf-is;
+      }
+
+-- "From any one such start, A then B leaves the same BP, CP and XF registers as B then A exactly when every bit that both name has the same
+-- value in both": for every two lists of calls from it
+pub either-order : (w : World) → Start w → (a b : Patch) (cs ds : List Call) → Delivers w cs (a ∷ b ∷ []) → Delivers w ds (b ∷ a ∷ [])
+    → SameRegisters (afterAll w cs) (afterAll w ds) ↔ Agree a b
+either-order w st a b cs ds d e =
+    let p = promise w cs (a ∷ b ∷ []) st d in
+    let q = promise w ds (b ∷ a ∷ []) st e in
+    let swap = merged-swap a b (w .state .bp) (d .accepted .0) (d .accepted .1 .0) (start-open w st) in (
+      (λ s. swap .0 (sym (p .bp-is) ∙ s .bp-is ∙ q .bp-is)),
+      (λ g. record { bp-is = p .bp-is ∙ swap .1 g ∙ sym (q .bp-is); cp-is = p .cp-is ∙ sym (q .cp-is); xf-is = p .xf-is ∙ sym (q .xf-is) }),
+    )

@@ -1,0 +1,52 @@
+-- Demand 3, and document 01's "Sheets in a row": patches fed one after the other, in any accepted pieces.
+use mathlib.Core.Path.{_≡_}
+use mathlib.Core.List.{List, [], _∷_}
+use Prim.Native.Nat.{ℕ}
+use lib.ListN.{length, getD}
+use Rattle.command.specs.declared.Draw.the-variants.{Closed}
+use Rattle.effect.specs.Effect.{maskPlace}
+use Rattle.processor.specs.Gate.{gateOf}
+use Rattle.history.specs.Calls.{World, Call, feed, step, run, write, read, queue, afterAll, fedAll}
+use Rattle.patch.specs.Patch.{Patch, bpCount, AllAccepted, appliedTo, mergedAll}
+use Rattle.patch.specs.Commands.{bytesOfPatches}
+
+-- "Begin with nothing that document 01 refuses by 1, 2 or 3, an empty ring, no draw open, the mask at FFFFFF and reading allowed in
+-- multi-buffer mode": none of 1 to 5 applies, by the very test of a step. The number of registers is the array's type.
+pub record Start (w : World) : Type 0 where
+  pub passes : gateOf (w .state) (length (w .ring)) ≡ 0
+  pub empty : queue w ≡ []
+  pub closed : w .state .draw ≡ Closed
+  pub size : length (w .state .bp) ≡ bpCount
+  pub unmasked : getD (w .state .bp) maskPlace 0 ≡ 0xFFFFFF
+
+-- "feeds, steps, runs and clears": a clear is a write to 004
+abbrev pub Listed : Call → Type 0
+Listed (feed bytes) = Unit {0}
+Listed step = Unit {0}
+Listed (run limit) = Unit {0}
+Listed (write offset value) = offset ≡ 4
+Listed (read offset) = ⊥
+
+abbrev pub AllListed : List Call → Type 0
+AllListed [] = Unit {0}
+AllListed (c ∷ cs) = Listed c × AllListed cs
+
+-- a list of calls that "feeds whole accepted sheets one after the other, in any accepted pieces, and ends with the ring empty", from a start;
+-- refused calls included
+pub record Delivers (w : World) (cs : List Call) (ps : List Patch) : Type 0 where
+  pub listed : AllListed cs
+  pub accepted : AllAccepted ps
+  pub fed-is : fedAll w cs ≡ bytesOfPatches ps
+  pub emptied : queue (afterAll w cs) ≡ []
+
+-- "Compared are all 256 BP registers, all CP registers and all 4,184 XF words."
+pub record SameRegisters (a b : World) : Type 0 where
+  pub bp-is : a .state .bp ≡ b .state .bp
+  pub cp-is : a .state .cp ≡ b .state .cp
+  pub xf-is : a .state .xf ≡ b .state .xf
+
+-- "What the rules give for a sheet: BP register r is the start's outside mask r, number r inside; CP registers and XF words are the start's."
+pub record RulesGive (w : World) (p : Patch) (end : World) : Type 0 where
+  pub bp-is : end .state .bp ≡ appliedTo (w .state .bp) p
+  pub cp-is : end .state .cp ≡ w .state .cp
+  pub xf-is : end .state .xf ≡ w .state .xf
