@@ -129,6 +129,26 @@ module _ {ring : List ℕ} {s : State} {later : List ℕ} {left : List (List ℕ
   unfolding stepOf
   advance-step = rw step-is advance-look
 
+-- a step at a whole load executes it, and what is left of the queue is the others' bytes
+pub record Whole (ring : List ℕ) (s : State) (later : List ℕ) (left others : List (List ℕ)) : Type 0 where
+  pub advance : Advance ring s (stepOf ring s) later left
+  pub rest : queueOf ring (stepOf ring s) ++ later ≡ bytesOfCommands others
+
+pub advance-whole : {ring : List ℕ} {s : State} {later : List ℕ} {left : List (List ℕ)} (a : Ahead ring s later left)
+    (b : Begins (queueOf ring s) later (s .cp) left) → Whole ring s later left (b .others)
+unfolding stepOf executed
+advance-whole {ring} {s} {later} a b =
+    let f : lookAt ring s ≡ unit (b .command) 0 5 = found-is a (b .look-is) in
+    let e : stepOf ring s ≡ executed ring s (b .command) 5 = ap (S.after ring s) (step-is a ∙ f) in
+    let fits = unit-fits ring s (a .passes .ready) (b .command) 0 5 (sym f) in
+    record {
+      advance = advance-step a;
+      rest =
+          ap (λ (x : State). queueOf ring x ++ later) e
+          ∙ ap (λ (x : List ℕ). x ++ later) (reads-pending (s .fifo) ring (a .passes .ready) .drop-is 5 (fits .1 .0))
+          ∙ b .rest-is;
+    }
+
 -- ---- a run
 gone-state : (found : Found) (s : State) (e : Ended) → (goneOn found s e .state ≡ e .state) ⊎ (goneOn found s e .state ≡ s)
 gone-state (unit c m n) s e = inl refl
