@@ -16,13 +16,9 @@ use Rattle.command.specs.declared.Draw.{Draw}
 use Rattle.command.specs.declared.Draw.the-variants.{Closed, Open}
 use Rattle.command.specs.Command.{Found, unit, waiting, refused, vertex}
 use Rattle.command.specs.Places.{cpAccepted}
-use Rattle.command.specs.Look.{whole, lookCp, xfCount, xfWords, xfAddress, lookXf, lookIndexed, lookCall, lookBp, descriptorOf, unlessRefused, lookHead, lookVertex, isIndexed, isDraw, byOpcode, lookOf}
-
--- what holds of every answer at n bytes
-abbrev pub Fair : ℕ → Found → Type 0
-Fair n (unit c m l) = (1 ≤ l) × ((l ≤ n) × (l ≤ 129))
-Fair n (waiting k) = (1 ≤ k) × (n + k ≤ 129)
-Fair n (refused r) = Unit {0}
+use Rattle.command.specs.Look.{whole, lookCp, xfCount, xfWords, xfAddress, lookXf, lookIndexed, lookCall, lookBp, descriptorOf}
+use Rattle.command.specs.Look.{unlessRefused, lookHead, lookVertex, isIndexed, isDraw, byOpcode, lookOf}
+pub use Rattle.command.specs.Bounds.{Fair}
 
 fair-whole : (n length : ℕ) (c : List ℕ) (m : ℕ) → 1 ≤ length → length ≤ 129 → Fair n (whole n length c m)
 unfolding whole

@@ -37,7 +37,7 @@ cpPlace a =
 unfoldable pub cpAccepted : ℕ → Bool
 cpAccepted a = eqb a 0x20 || ltb (cpPlace a) cpCount
 
--- "Arrays by attribute: 0 position, 1 normal, 2 and 3 colours, 4 to 11 textures, 12 to 15 the indexed loads": attributes 9 to 20 of a
--- vertex in their order (`indexedArray` names those of the indexed loads)
+-- "Arrays by attribute: 0 position, 1 normal, 2 and 3 colours, 4 to 11 textures, 12 to 15 the indexed loads": here attributes 9 to 20.
+-- Nothing is fetched, so that of all arrays only 12 to 15 show, in the address that an indexed load reports (`indexedArray`).
 abbrev pub attributeArray : ℕ → ℕ
 attributeArray attribute = attribute - 9

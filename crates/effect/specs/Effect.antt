@@ -28,7 +28,7 @@ cpAfter c cp = cond (eqb (kindOf c) 0x08) (loadedCp cp (fieldOf c 1) (fieldOf c 
 
 -- ---- "BP load"
 
--- "new = old outside m, number inside m"
+-- "new = old outside m, number inside m", of 24-bit numbers; wider ones are refused by 1
 unfoldable pub masked : ℕ → ℕ → ℕ → ℕ
 masked old mask n = bitOr (bitAnd old (bitXor 0xFFFFFF mask)) (bitAnd n mask)
 

@@ -1,6 +1,7 @@
--- "VCD group 0: bits 0 to 8 matrices, then two bits each from 9 .. VAT fields stand as in 004's table": what a descriptor says of
--- attribute k. The attributes in document 01's order: 0 the position matrix, 1 to 8 texture matrices, 9 position, 10 normal, 11 and 12
--- colours, 13 to 20 textures.
+-- What a descriptor says of attribute k:
+-- "VCD group 0: bits 0 to 8 matrices, then two bits each from 9 .. VAT fields stand as in 004's table."
+-- The attributes in document 01's order: 0 the position matrix, 1 to 8 texture matrices, 9 position, 10 normal,
+-- 11 and 12 colours, 13 to 20 textures.
 use mathlib.Core.Bool.{cond, _&&_}
 use mathlib.Core.List.{List, [], _∷_}
 use Prim.Native.Nat.{ℕ, _+_, _/_, _%_, _^_}
@@ -13,8 +14,8 @@ use Rattle.layout.specs.declared.Field.{Field}
 abbrev pub words : Descriptor → List ℕ
 words d = d .vcd0 ∷ d .vcd1 ∷ d .vat0 ∷ d .vat1 ∷ d .vat2 ∷ []
 
--- the bits from a place on, modulo q: bit b of VCD group g stands at 32 * g + b, of VAT group g at 64 + 32 * g + b; past the last word
--- all is 0
+-- the bits from a place on, modulo q: bit b of VCD group g stands at 32 * g + b, of VAT group g at 64 + 32 * g + b;
+-- past the last word all is 0
 unfoldable pub bitsAt : Descriptor → ℕ → ℕ → ℕ
 bitsAt d place q = getD (words d) (place / 32) 0 / 2 ^ (place % 32) % q
 
@@ -54,8 +55,8 @@ countOf d k = bitsAt d (placeIn counts k) 2
 unfoldable pub formatOf : Descriptor → ℕ → ℕ
 formatOf d k = bitsAt d (placeIn formats k) 8
 
--- "The shift is 0 for 8-bit components where group 0 bit 30 is clear, and for all normals": of attribute, format, that bit and the VAT's
--- shift
+-- "The shift is 0 for 8-bit components where group 0 bit 30 is clear, and for all normals":
+-- of attribute, format, that bit and the VAT's shift
 unfoldable pub fractionBits : ℕ → ℕ → ℕ → ℕ → ℕ
 fractionBits k format bit30 shift = cond (eqb k 10) 0 (cond (ltb format 2 && eqb bit30 0) 0 shift)
 

@@ -58,7 +58,8 @@ pub three-bytes : (l : List ℕ) (at : ℕ) → bigEndian l at 3 ≡ (getD l at 
 unfolding bigEndian
 three-bytes l at = rw (add-zero at) (omega arith)
 
-pub four-bytes : (l : List ℕ) (at : ℕ) → bigEndian l at 4 ≡ ((getD l at 0 * 256 + getD l (at + 1) 0) * 256 + getD l (at + 2) 0) * 256 + getD l (at + 3) 0
+pub four-bytes : (l : List ℕ) (at : ℕ)
+    → bigEndian l at 4 ≡ ((getD l at 0 * 256 + getD l (at + 1) 0) * 256 + getD l (at + 2) 0) * 256 + getD l (at + 3) 0
 unfolding bigEndian
 four-bytes l at = rw (add-zero at) (omega arith)
 

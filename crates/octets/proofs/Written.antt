@@ -32,7 +32,12 @@ front zero v y h = omega arith
 front (suc n) v y h =
     let high : v / 256 < 256 ^ n = below (256 ^ n) v (rw (pow-succ' 256 n) at h) in
     let l : length (bytesOf n (v / 256)) ≡ n = length-bytes n (v / 256) in
-    rw (append-assoc, front n (v / 256) ((v % 256 ∷ []) ++ y) high, zero-add n, getD-at (bytesOf n (v / 256)) (v % 256) y 0 n l) (omega arith)
+    rw (
+      append-assoc,
+      front n (v / 256) ((v % 256 ∷ []) ++ y) high,
+      zero-add n,
+      getD-at (bytesOf n (v / 256)) (v % 256) y 0 n l,
+    ) (omega arith)
   where
     below : (p v : ℕ) → v < 256 * p → v / 256 < p
     below p v h = omega arith

@@ -29,8 +29,8 @@ largest =
     words 0xABFF 0x5555 (9 + 9 * 2 ^ 9 + 11 * 2 ^ 13 + 11 * 2 ^ 17 + 9 * 2 ^ 21) (9 + 9 * 2 ^ 9 + 9 * 2 ^ 18 + 9 * 2 ^ 27)
     (9 * 2 ^ 5 + 9 * 2 ^ 14 + 9 * 2 ^ 23)
 
--- the first component, by its bits, of a vertex that is a direct position of two components alone: of the format, the shift, bit 30 and
--- the bytes
+-- the first component, by its bits, of a vertex that is a direct position of two components alone:
+-- of the format, the shift, bit 30 and the bytes
 abbrev first : ℕ → ℕ → ℕ → List ℕ → ℕ
 first format shift bit30 bytes = getD (decodingOf (named 0x200 (2 * format + 16 * shift + bit30 * 2 ^ 30)) 9 bytes) 2 0
 

@@ -30,7 +30,8 @@ length-stored xf u a (suc n) = simp length-set (length-stored xf u a n)
 pub length-loaded : (xf u : List ℕ) (w a : ℕ) → length (loadedXf xf u w a) ≡ length xf
 unfolding loadedXf
 length-loaded xf u w a =
-    cond-both (λ (x : List ℕ). length x ≡ length xf) (leb (5 + 4 * w) (length u) && leb (a + w) (length xf)) (λ _. length-stored xf u a w) (λ _. refl)
+    cond-both (λ (x : List ℕ). length x ≡ length xf) (leb (5 + 4 * w) (length u) && leb (a + w) (length xf)) (λ _. length-stored xf u a w)
+    (λ _. refl)
 
 -- the words that a load stored, written again, are its bytes
 words-again : (xf u : List ℕ) → Octets u → (a n : ℕ) → a + n ≤ length xf → 5 + 4 * n ≤ length u
@@ -90,7 +91,8 @@ module _ (u xf : List ℕ) (o : Octets u) where
       ∙ three u 1 1 n l
 
   -- an opcode and two numbers
-  pair-again : (op n k : ℕ) → length u ≡ 1 + n + k → getD u 0 0 ≡ op → op ∷ (bytesOf n (bigEndian u 1 n) ++ bytesOf k (bigEndian u (1 + n) k)) ≡ u
+  pair-again : (op n k : ℕ) → length u ≡ 1 + n + k → getD u 0 0 ≡ op
+      → op ∷ (bytesOf n (bigEndian u 1 n) ++ bytesOf k (bigEndian u (1 + n) k)) ≡ u
   pair-again op n k l e =
       ap (λ (x : List ℕ). op ∷ (x ++ bytesOf k (bigEndian u (1 + n) k))) (write-back u 1 n o (omega arith))
       ∙ ap (λ (x : List ℕ). op ∷ (take n (drop 1 u) ++ x)) (write-back u (1 + n) k o (omega arith))
@@ -128,7 +130,8 @@ module _ (u xf : List ℕ) (o : Octets u) where
       ∙ ap (λ (x : ℕ). op ∷ (bytesOf 2 (bigEndian u 1 2) ++ bytesOf 2 x)) w
       ∙ pair-again op 2 2 l e
 
-  pub head-again : (op : ℕ) → length u ≡ 3 → getD u 0 0 ≡ op → 0x80 ≤ op → op < 0xC0 → Back (drawHead (op / 8 % 8) (op % 8) (bigEndian u 1 2))
+  pub head-again : (op : ℕ) → length u ≡ 3 → getD u 0 0 ≡ op → 0x80 ≤ op → op < 0xC0
+      → Back (drawHead (op / 8 % 8) (op % 8) (bigEndian u 1 2))
   unfolding headOf wordsOf lowered
   head-again op l e lo hi =
       let k : 0x80 + 8 * (op / 8 % 8 % 8) + op % 8 % 8 ≡ op = omega arith in
@@ -147,7 +150,8 @@ module _ (u xf : List ℕ) (o : Octets u) where
   unfolding heldWords wordsOf
   held-many w a k = take-take w w (drop a (xfAfter (loadXf w a) u xf)) (omega arith)
 
-  pub xf-again : (w a : ℕ) → length u ≡ 5 + 4 * w → getD u 0 0 ≡ 0x10 → w ≡ xfWords u → a ≡ xfAddress u → a + w ≤ length xf → Back (loadXf w a)
+  pub xf-again : (w a : ℕ) → length u ≡ 5 + 4 * w → getD u 0 0 ≡ 0x10 → w ≡ xfWords u → a ≡ xfAddress u → a + w ≤ length xf
+      → Back (loadXf w a)
   unfolding commandBytes headOf wordsOf lowered xfWords xfAddress bytesOf
   xf-again w a l e p q k =
       let high : getD u 1 0 < 256 = o 1 in

@@ -26,7 +26,13 @@ returns : tie.Need-returns
 unfolding headOf bytesOf
 returns c =
     record {
-      bytes-are = rw (c .before .before .before .low .ensures, c .before .before .low2 .ensures, c .before .low3 .ensures, c .low4 .ensures);
+      bytes-are =
+          rw (
+            c .before .before .before .low .ensures,
+            c .before .before .low2 .ensures,
+            c .before .low3 .ensures,
+            c .low4 .ensures,
+          );
       length-is = refl;
       most = lit≤ tt;
     }
