@@ -1,5 +1,5 @@
 -- How an answer changes when more bytes come: a settled one stays, and a waiting one waits for as many as it says.
-use mathlib.Core.Path.{_≡_, refl, sym, ap, _∙_, subst}
+use mathlib.Core.Path.{_≡_, refl, subst}
 use mathlib.Core.Bool.{Bool, true, false, cond}
 use mathlib.Core.Logic.{_⊎_, inl, inr, ⊎-elim}
 use mathlib.Core.List.{List}
@@ -11,10 +11,10 @@ use borrow.Author.Tests.{lt-ltb, le-ltb, eq-eqb, ne-eqb, eqb-true}
 use Rattle.laws.proofs.Cases.{order, cond-both}
 use Rattle.octets.specs.BigEndian.{bigEndian}
 use Rattle.octets.proofs.Number.{agree}
-use Rattle.layout.specs.Answers.{refusalOf, lengthOf}
+use Rattle.layout.specs.Answers.{refusalOf}
 use Rattle.command.specs.declared.Draw.{Draw}
 use Rattle.command.specs.declared.Draw.the-variants.{Closed, Open}
-use Rattle.command.specs.Command.{Found, unit, waiting, refused, loadCp}
+use Rattle.command.specs.Command.{Found, unit, waiting, refused}
 use Rattle.command.specs.Places.{cpAccepted}
 use Rattle.command.specs.Look.{whole, lookCp, xfCount, xfWords, xfAddress, lookXf, lookIndexed, lookCall, lookBp, descriptorOf}
 use Rattle.command.specs.Look.{unlessRefused, lookHead, lookVertex, isIndexed, isDraw, byOpcode, lookOf}

@@ -12,7 +12,7 @@ use Rattle.command.specs.declared.Command.the-variants.{NoOperation, Inv
 use Rattle.command.specs.declared.Command.the-variants.{CallList, LoadBp, DrawHead, Vertex}
 use Rattle.command.specs.declared.Next.{Next}
 use Rattle.command.specs.declared.Next.the-variants.{Unit, Waiting, Refused}
-use Rattle.command.specs.Command.{kindOf, fieldOf, numbersOf, unit, meaning}
+use Rattle.command.specs.Command.{kindOf, fieldOf, numbersOf, meaning}
 
 -- the command of a list of numbers
 commandOf : List ℕ → Command

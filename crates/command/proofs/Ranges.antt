@@ -1,8 +1,8 @@
 -- The fields of a command that was read from bytes fit their registers.
 use mathlib.Core.Path.{_≡_, refl}
-use mathlib.Core.Bool.{Bool, true, false, cond}
-use mathlib.Core.List.{List, [], _∷_}
-use Prim.Native.Nat.{ℕ, zero, suc, _+_, _/_, _%_, _^_, _<_}
+use mathlib.Core.Bool.{false}
+use mathlib.Core.List.{List, _∷_}
+use Prim.Native.Nat.{ℕ, zero, suc, _+_, _/_, _%_}
 use native.Mathlib.Omega.{arith}
 use lib.Dec.{ltb, eqb}
 use lib.ListN.{getD}
@@ -13,7 +13,7 @@ use Rattle.octets.proofs.Number.{Octets, big-lt}
 use Rattle.layout.specs.Answers.{refusalOf, lengthOf}
 use Rattle.command.specs.declared.Draw.{Draw}
 use Rattle.command.specs.declared.Draw.the-variants.{Closed, Open}
-use Rattle.command.specs.Command.{Found, unit, waiting, refused, kindOf, fieldOf, loadBp, drawHead, vertex}
+use Rattle.command.specs.Command.{Found, loadBp, drawHead}
 use Rattle.command.specs.Places.{cpAccepted}
 use Rattle.command.specs.Look.{whole, lookCp, xfCount, xfWords, xfAddress, lookXf, lookIndexed, lookCall, lookBp, descriptorOf}
 use Rattle.command.specs.Look.{unlessRefused, lookHead, lookVertex, isIndexed, isDraw, byOpcode, lookOf}

@@ -1,7 +1,7 @@
 -- What a command does to the registers, the XF words, the vertex buffer and the open draw ("Units of the stream").
 -- A command is its list of numbers, kind and fields; what it does not name stays.
 use mathlib.Core.Path.{_≡_}
-use mathlib.Core.Bool.{Bool, cond, _&&_}
+use mathlib.Core.Bool.{cond, _&&_}
 use mathlib.Core.List.{List, _++_}
 use Prim.Native.Nat.{ℕ, zero, suc, _+_, _-_, _*_, _%_, _^_}
 use lib.Bits.{bitAnd, bitOr, bitXor}

@@ -1,6 +1,6 @@
 -- A command that was read is one that the writer takes, and its bytes come back.
-use mathlib.Core.Path.{_≡_, refl, sym, ap, _∙_, subst}
-use mathlib.Core.Bool.{Bool, true, false, cond, not, _&&_, _||_}
+use mathlib.Core.Path.{_≡_, refl, sym, _∙_, subst}
+use mathlib.Core.Bool.{Bool, true, false, _||_}
 use mathlib.Core.Logic.{_⊎_, inl, inr}
 use mathlib.Core.List.{List, [], _∷_}
 use Prim.Native.Nat.{ℕ, zero, suc, _+_, _*_, _/_, _%_, _^_, _<_, _≤_}
@@ -14,7 +14,7 @@ use Rattle.octets.specs.BigEndian.{bigEndian}
 use Rattle.octets.proofs.Number.{Octets, big-lt, octets-take}
 use Rattle.layout.specs.Answers.{refusalOf}
 use Rattle.command.specs.declared.Draw.the-variants.{Closed}
-use Rattle.command.specs.Command.{Found, unit, waiting, refused, loadCp, loadXf, loadIndexed, callList, loadBp, drawHead}
+use Rattle.command.specs.Command.{Found, unit, waiting, refused, loadXf}
 use Rattle.command.specs.Places.{cpAccepted}
 use Rattle.command.specs.Look.{xfCount, whole, lookCp, xfWords, xfAddress, lookXf, indexedArray, lookIndexed, lookCall, lookBp}
 use Rattle.command.specs.Look.{descriptorOf, unlessRefused, lookHead, isIndexed, isDraw, byOpcode, lookOf}

@@ -1,22 +1,20 @@
 -- Read and written again: the bytes of a unit come back.
-use mathlib.Core.Path.{_≡_, refl, sym, ap, _∙_, subst}
-use mathlib.Core.Bool.{Bool, true, false, cond, not, _&&_, _||_}
+use mathlib.Core.Path.{_≡_, refl, sym, ap, _∙_}
+use mathlib.Core.Bool.{false, _&&_}
 use mathlib.Core.Logic.{_⊎_, inl, inr}
-use mathlib.Core.List.{List, [], _∷_, _++_, append-assoc, append-nil}
+use mathlib.Core.List.{List, [], _∷_, _++_, append-nil}
 use Prim.Native.Nat.{ℕ, zero, suc, _+_, _-_, _*_, _/_, _%_, _^_, _<_, _≤_}
-use native.Mathlib.Nat.{add-zero}
-use native.Mathlib.Numerals.{add-one}
 use native.Mathlib.Omega.{arith}
-use lib.Dec.{leb, ltb, eqb, lit<}
-use lib.ListN.{length, getD, set, take, drop, length-append, length-drop, length-set, take-append-drop}
-use borrow.Author.Tests.{le-leb, eqb-true, leb-true, ltb-true, ltb-false}
-use lib.Seq.{take-take, take-all, drop-cons, take-add, drop-drop, drop-set-add, take-suc-set, length-take-le}
+use lib.Dec.{leb, eqb}
+use lib.ListN.{length, getD, set, take, drop, length-drop, length-set, take-append-drop}
+use borrow.Author.Tests.{le-leb}
+use lib.Seq.{take-take, take-all, drop-cons, take-add, drop-drop, drop-set-add, take-suc-set}
 use Rattle.laws.proofs.Cases.{cond-both}
 use Rattle.octets.specs.BigEndian.{bigEndian, bytesOf}
 use Rattle.octets.proofs.Number.{Octets, big-lt, two-bytes}
-use Rattle.octets.proofs.Written.{length-bytes, write-back}
+use Rattle.octets.proofs.Written.{write-back}
 use Rattle.command.specs.Command.{loadCp, loadXf, loadIndexed, callList, loadBp, drawHead}
-use Rattle.command.specs.Look.{xfCount, xfWords, xfAddress, indexedArray, isIndexed, isDraw}
+use Rattle.command.specs.Look.{xfWords, xfAddress, indexedArray}
 use Rattle.effect.specs.Effect.{storedXf, loadedXf, xfAfter}
 use Rattle.writer.specs.Write.{lengthField, headOf, wordsOf, wordBytes, commandBytes}
 use Rattle.writer.specs.Again.{lowered, heldWords}

@@ -1,23 +1,22 @@
 -- "Stepping a written command gives it back", as far as the look: what is written for a command is looked at as that command.
-use mathlib.Core.Path.{_≡_, refl, sym, ap, _∙_, subst}
-use mathlib.Core.Bool.{Bool, true, false, cond, not, _&&_, _||_}
+use mathlib.Core.Path.{_≡_, refl, sym, ap, _∙_}
+use mathlib.Core.Bool.{true}
 use mathlib.Core.Logic.{_⊎_, inl, inr}
-use mathlib.Core.List.{List, [], _∷_, _++_, append-assoc}
+use mathlib.Core.List.{List, [], _∷_, _++_}
 use Prim.Native.Nat.{ℕ, zero, suc, _+_, _-_, _*_, _/_, _%_, _^_, _<_, _≤_}
 use native.Mathlib.Omega.{arith}
-use lib.Dec.{leb, ltb, eqb, lit<}
-use lib.ListN.{length, getD, take, length-append}
-use borrow.Author.Tests.{ne-eqb, le-ltb, eqb-true, leb-true, leb-false, ltb-true, ltb-false}
+use lib.ListN.{length, length-append}
+use borrow.Author.Tests.{le-ltb}
 use Rattle.octets.specs.BigEndian.{bigEndian, bytesOf}
 use Rattle.octets.proofs.Written.{length-bytes, read-back}
 use Rattle.layout.specs.Answers.{refusalOf}
 use Rattle.command.specs.declared.Draw.the-variants.{Closed}
-use Rattle.command.specs.Command.{Found, unit, kindOf, fieldOf, loadBp, loadCp, callList, drawHead, loadXf, loadIndexed}
+use Rattle.command.specs.Command.{unit, loadBp, loadCp, callList, drawHead, loadXf, loadIndexed}
 use Rattle.command.specs.Places.{cpAccepted}
 use Rattle.command.specs.Look.{xfCount, whole, lookCp, lookBp, lookCall, xfWords, xfAddress, lookXf}
-use Rattle.command.specs.Look.{descriptorOf, unlessRefused, lookHead, lookIndexed, indexedArray, memoryOf, byOpcode, lookOf}
+use Rattle.command.specs.Look.{descriptorOf, lookHead, lookIndexed, indexedArray, memoryOf, byOpcode, lookOf}
 use Rattle.command.proofs.Opcodes.{at-opcode, at-indexed, at-head, Other}
-use Rattle.writer.specs.Write.{lengthField, headOf, wordsOf, wordBytes, commandBytes, unwritable, unaddressed, pastEnd}
+use Rattle.writer.specs.Write.{lengthField}
 
 -- a unit whose bytes are there
 pub there : (n length : ℕ) (c : List ℕ) (m : ℕ) → length ≤ n → whole n length c m ≡ unit c m length

@@ -1,9 +1,6 @@
 -- `command::units::look_xf` meets its contract:
 -- code and definition make the same tests, on the words and the address as they stand big-endian.
 use borrow.Author.Needs.{needs}
-use mathlib.Core.Path.{_≡_, sym, ap, _∙_}
-use Prim.Native.Nat.{_+_, _%_}
-use native.Mathlib.Omega.{arith}
 use borrow.Author.Tests.{lt-ltb, le-ltb}
 use Rattle.command.specs.Look.{lookXf, xfWords, xfAddress}
 use Rattle.octets.proofs.Number.{two-bytes}
