@@ -23,8 +23,9 @@ basePlace array = 28 + array
 abbrev pub stridePlace : ℕ → ℕ
 stridePlace array = 44 + array
 
--- the place of the register that a CP load's address names, cpCount where it names none. "3X, 4X, 5X, 6X: low four bits ignored,
--- one register each. 70 to 77, 80 to 87, 90 to 97: VAT groups 0, 1, 2 of formats 0 to 7. A0 to AF array bases; B0 to BF strides."
+-- the place of the register that a CP load's address names, cpCount where it names none:
+-- "3X, 4X, 5X, 6X: low four bits ignored, one register each. 70 to 77, 80 to 87, 90 to 97: VAT groups 0, 1, 2 of formats 0 to 7.
+-- A0 to AF array bases ..; B0 to BF strides"
 unfoldable pub cpPlace : ℕ → ℕ
 cpPlace a =
     cond (ltb a 0x30) cpCount

@@ -1,7 +1,7 @@
 -- What a descriptor says of attribute k:
 -- "VCD group 0: bits 0 to 8 matrices, then two bits each from 9 .. VAT fields stand as in 004's table."
--- The attributes in document 01's order: 0 the position matrix, 1 to 8 texture matrices, 9 position, 10 normal,
--- 11 and 12 colours, 13 to 20 textures.
+-- The attributes in document 01's order:
+-- 0 the position matrix, 1 to 8 texture matrices, 9 position, 10 normal, 11 and 12 colours, 13 to 20 textures.
 use mathlib.Core.Path.{_≡_}
 use mathlib.Core.Bool.{cond, _&&_}
 use mathlib.Core.List.{List, [], _∷_}
