@@ -1,28 +1,22 @@
 -- The bounds of an answer: a unit has 1 to 129 bytes and all of them are there; what waits lacks a byte or more, and 129 always do.
-use mathlib.Core.Path.{_≡_, refl, sym, ap, _∙_, subst}
-use mathlib.Core.Bool.{Bool, true, false, cond}
-use mathlib.Core.List.{List, [], _∷_}
-use Prim.Native.Nat.{ℕ, zero, suc, _+_, _-_, _*_, _/_, _%_, _^_, _<_, _≤_}
+use mathlib.Core.Path.{_≡_, refl, subst}
+use mathlib.Core.List.{List}
+use Prim.Native.Nat.{ℕ, zero, suc, _+_, _-_, _*_, _%_, _<_, _≤_}
 use native.Mathlib.Omega.{arith}
-use lib.Dec.{ltb, eqb, lit≤, lit<}
+use lib.Dec.{ltb, eqb, lit≤}
 use lib.ListN.{getD}
 use borrow.Author.Tests.{ltb-true, ltb-false, eqb-true, eqb-false}
 use Rattle.laws.proofs.Cases.{cond-both}
-use Rattle.octets.specs.BigEndian.{bigEndian}
 use Rattle.layout.specs.declared.Descriptor.{Descriptor}
 use Rattle.layout.specs.Answers.{refusalOf, lengthOf}
 use Rattle.layout.proofs.Bounds.{length-bounds}
 use Rattle.command.specs.declared.Draw.{Draw}
 use Rattle.command.specs.declared.Draw.the-variants.{Closed, Open}
-use Rattle.command.specs.Command.{Found, unit, waiting, refused, vertex}
+use Rattle.command.specs.Command.{Found, waiting, vertex}
 use Rattle.command.specs.Places.{cpAccepted}
-use Rattle.command.specs.Look.{whole, lookCp, xfCount, xfWords, xfAddress, lookXf, lookIndexed, lookCall, lookBp, descriptorOf, unlessRefused, lookHead, lookVertex, isIndexed, isDraw, byOpcode, lookOf}
-
--- what holds of every answer at n bytes
-abbrev pub Fair : ℕ → Found → Type 0
-Fair n (unit c m l) = (1 ≤ l) × ((l ≤ n) × (l ≤ 129))
-Fair n (waiting k) = (1 ≤ k) × (n + k ≤ 129)
-Fair n (refused r) = Unit {0}
+use Rattle.command.specs.Look.{whole, lookCp, xfCount, xfWords, xfAddress, lookXf, lookIndexed, lookCall, lookBp, descriptorOf}
+use Rattle.command.specs.Look.{unlessRefused, lookHead, lookVertex, isIndexed, isDraw, byOpcode, lookOf}
+pub use Rattle.command.specs.Bounds.{Fair}
 
 fair-whole : (n length : ℕ) (c : List ℕ) (m : ℕ) → 1 ≤ length → length ≤ 129 → Fair n (whole n length c m)
 unfolding whole

@@ -1,5 +1,5 @@
 -- How an answer changes when more bytes come: a settled one stays, and a waiting one waits for as many as it says.
-use mathlib.Core.Path.{_≡_, refl, sym, ap, _∙_, subst}
+use mathlib.Core.Path.{_≡_, refl, subst}
 use mathlib.Core.Bool.{Bool, true, false, cond}
 use mathlib.Core.Logic.{_⊎_, inl, inr, ⊎-elim}
 use mathlib.Core.List.{List}
@@ -11,35 +11,16 @@ use borrow.Author.Tests.{lt-ltb, le-ltb, eq-eqb, ne-eqb, eqb-true}
 use Rattle.laws.proofs.Cases.{order, cond-both}
 use Rattle.octets.specs.BigEndian.{bigEndian}
 use Rattle.octets.proofs.Number.{agree}
-use Rattle.layout.specs.Answers.{refusalOf, lengthOf}
+use Rattle.layout.specs.Answers.{refusalOf}
 use Rattle.command.specs.declared.Draw.{Draw}
 use Rattle.command.specs.declared.Draw.the-variants.{Closed, Open}
-use Rattle.command.specs.Command.{Found, unit, waiting, refused, loadCp}
+use Rattle.command.specs.Command.{Found, unit, waiting, refused}
 use Rattle.command.specs.Places.{cpAccepted}
-use Rattle.command.specs.Look.{whole, lookCp, xfCount, xfWords, xfAddress, lookXf, lookIndexed, lookCall, lookBp, descriptorOf, unlessRefused, lookHead, lookVertex, isIndexed, isDraw, byOpcode, lookOf}
-use Rattle.command.proofs.Bounds.{Fair, look-fair}
-
--- neither a unit nor a refusal; not a unit; not waiting
-abbrev pub Waits : Found → Type 0
-Waits x = (k : ℕ) × (x ≡ waiting k)
-
-abbrev pub NoUnit : Found → Type 0
-NoUnit x = (c : List ℕ) (m l : ℕ) → x ≡ unit c m l → ⊥
-
-abbrev pub Settled : Found → Type 0
-Settled x = (k : ℕ) → x ≡ waiting k → ⊥
-
--- a unit of more than n bytes, where it is one
-abbrev pub Longer : ℕ → Found → Type 0
-Longer n x = (c : List ℕ) (m l : ℕ) → x ≡ unit c m l → n < l
-
--- x is the answer at n bytes and y at n' of the same: `keeps`, an answer other than waiting stays; `fewer`, with fewer bytes more than are
--- lacking there is no unit; `just`, with just those there is a unit or a refusal, unless E; `alone`, a unit is one without what comes after it
-pub record Extends (E : Type 0) (n n' : ℕ) (x y : Found) : Type 0 where
-  pub keeps : Settled x → x ≡ y
-  pub fewer : (k : ℕ) → x ≡ waiting k → n' < n + k → NoUnit y
-  pub just : (k : ℕ) → x ≡ waiting k → n' ≡ n + k → (E → ⊥) → Settled y
-  pub alone : (c : List ℕ) (m l : ℕ) → y ≡ unit c m l → l ≤ n → x ≡ y
+use Rattle.command.specs.Look.{whole, lookCp, xfCount, xfWords, xfAddress, lookXf, lookIndexed, lookCall, lookBp, descriptorOf}
+use Rattle.command.specs.Look.{unlessRefused, lookHead, lookVertex, isIndexed, isDraw, byOpcode, lookOf}
+use Rattle.command.specs.Bounds.{Fair}
+use Rattle.command.proofs.Bounds.{look-fair}
+pub use Rattle.command.specs.Prefix.{Settled, NoUnit, Longer, Heads, Extends}
 
 no : {A : Type 0} → _≡_ {A = ℕ} 0 1 → A
 no e = absurd (omega (arith, e))
@@ -75,7 +56,8 @@ module _ (E : Type 0) (n n' : ℕ) (more : n ≤ n') where
   ext-refused r = ext-settled (refused-settled r) refl
 
   -- an answer that waits for k bytes
-  ext-waiting : (k : ℕ) {y : Found} → (n' < n + k → NoUnit y) → (n' ≡ n + k → (E → ⊥) → Settled y) → Longer n y → Extends E n n' (waiting k) y
+  ext-waiting : (k : ℕ) {y : Found} → (n' < n + k → NoUnit y) → (n' ≡ n + k → (E → ⊥) → Settled y) → Longer n y
+      → Extends E n n' (waiting k) y
   ext-waiting k {y} f j long =
       record {
         keeps = λ s. absurd (s k refl);
@@ -88,7 +70,8 @@ module _ (E : Type 0) (n n' : ℕ) (more : n ≤ n') where
       same i e = cc
 
   -- the same test before and after
-  ext-cond : (t : Bool) {x y u v : Found} → (t ≡ true → Extends E n n' x y) → (t ≡ false → Extends E n n' u v) → Extends E n n' (cond t x u) (cond t y v)
+  ext-cond : (t : Bool) {x y u v : Found} → (t ≡ true → Extends E n n' x y) → (t ≡ false → Extends E n n' u v)
+      → Extends E n n' (cond t x u) (cond t y v)
   ext-cond true f g = f refl
   ext-cond false f g = g refl
 
@@ -97,7 +80,8 @@ module _ (E : Type 0) (n n' : ℕ) (more : n ≤ n') where
   ext-unless (suc r) h = ext-refused (suc r)
 
   -- a unit of so many bytes, whose fields stay as soon as they are there
-  ext-whole : (length : ℕ) (c c' : List ℕ) (m m' : ℕ) → (length ≤ n → (c ≡ c') × (m ≡ m')) → Extends E n n' (whole n length c m) (whole n' length c' m')
+  ext-whole : (length : ℕ) (c c' : List ℕ) (m m' : ℕ) → (length ≤ n → (c ≡ c') × (m ≡ m'))
+      → Extends E n n' (whole n length c m) (whole n' length c' m')
   unfolding whole
   ext-whole length c c' m m' f =
       ⊎-elim
@@ -129,7 +113,8 @@ cp-longer : (p : List ℕ) (n n' : ℕ) → n < 2 → Longer n (lookCp p n')
 unfolding lookCp
 cp-longer p n n' h =
     cond-both (Longer n) (ltb n' 2) (λ _. no-unit-longer n (waiting-no-unit (6 - n')))
-    (λ _. cond-both (Longer n) (cpAccepted (getD p 1 0)) (λ _. whole-longer n n' 6 _ 0 (omega arith)) (λ _. no-unit-longer n (refused-no-unit 7)))
+    (λ _. cond-both (Longer n) (cpAccepted (getD p 1 0)) (λ _. whole-longer n n' 6 _ 0 (omega arith))
+    (λ _. no-unit-longer n (refused-no-unit 7)))
 
 xf-longer : (p : List ℕ) (n n' : ℕ) → n < 5 → Longer n (lookXf p n')
 unfolding lookXf
@@ -163,7 +148,9 @@ module _ (E : Type 0) (p p' : List ℕ) (n n' : ℕ) (more : n ≤ n') (same : (
   ext-cp : Extends E n n' (lookCp p n) (lookCp p' n')
   ext-cp =
       ⊎-elim
-      (λ h. rw (cp-first h) (ext-waiting E n n' more (6 - n) (λ g. cp-below p' n' (omega arith)) (λ g _. cp-at p' n' (omega arith)) (cp-longer p' n n' h)))
+      (λ h.
+      rw (cp-first h)
+      (ext-waiting E n n' more (6 - n) (λ g. cp-below p' n' (omega arith)) (λ g _. cp-at p' n' (omega arith)) (cp-longer p' n n' h)))
       cp-later
       (order n 2)
 
@@ -184,7 +171,9 @@ module _ (E : Type 0) (p p' : List ℕ) (n n' : ℕ) (more : n ≤ n') (same : (
   ext-xf : (n < 5 → E) → Extends E n n' (lookXf p n) (lookXf p' n')
   ext-xf exempt =
       ⊎-elim
-      (λ h. rw (xf-first h) (ext-waiting E n n' more (5 - n) (λ g. xf-below p' n' (omega arith)) (λ g u. absurd (u (exempt h))) (xf-longer p' n n' h)))
+      (λ h.
+      rw (xf-first h)
+      (ext-waiting E n n' more (5 - n) (λ g. xf-below p' n' (omega arith)) (λ g u. absurd (u (exempt h))) (xf-longer p' n n' h)))
       xf-later
       (order n 5)
 
@@ -224,11 +213,6 @@ module _ (E : Type 0) (p p' : List ℕ) (n n' : ℕ) (more : n ≤ n') (same : (
     where
       plain : (c : List ℕ) → Extends E n n' (whole n 1 c 0) (whole n' 1 c 0)
       plain c = ext-whole E n n' more 1 c c 0 0 (λ g. (refl, refl))
-
--- no byte at all, or a part of an XF load's head: what comes next decides only how many bytes come after it
-abbrev pub Heads : List ℕ → ℕ → Draw → Type 0
-Heads p n Closed = (n ≡ 0) ⊎ ((getD p 0 0 ≡ 0x10) × (n < 5))
-Heads p n (Open primitive format left) = ⊥
 
 module _ (p p' : List ℕ) (n n' : ℕ) (more : n ≤ n') (same : (k : ℕ) → k < n → getD p k 0 ≡ getD p' k 0) (cp : List ℕ) where
   abbrev E : Type 0

@@ -8,10 +8,11 @@ use lib.Dec.{eqb}
 use Rattle.refusal.specs.Number.{number}
 use Rattle.refusal.proofs.Injective.{number-injective}
 use Rattle.command.specs.declared.Command.{Command}
-use Rattle.command.specs.declared.Command.the-variants.{NoOperation, InvalidateCache, Metrics, LoadCp, LoadXf, LoadIndexed, CallList, LoadBp, DrawHead, Vertex}
+use Rattle.command.specs.declared.Command.the-variants.{NoOperation, InvalidateCache, Metrics, LoadCp, LoadXf, LoadIndexed}
+use Rattle.command.specs.declared.Command.the-variants.{CallList, LoadBp, DrawHead, Vertex}
 use Rattle.command.specs.declared.Next.{Next}
 use Rattle.command.specs.declared.Next.the-variants.{Unit, Waiting, Refused}
-use Rattle.command.specs.Command.{kindOf, fieldOf, numbersOf, unit, meaning}
+use Rattle.command.specs.Command.{kindOf, fieldOf, numbersOf, meaning}
 
 -- the command of a list of numbers
 commandOf : List ℕ → Command

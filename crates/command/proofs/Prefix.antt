@@ -1,5 +1,5 @@
 -- What an answer depends on, and how it goes on: theorems over the definition that `look` cites.
-use mathlib.Core.Path.{_≡_, refl, sym, ap, _∙_, subst}
+use mathlib.Core.Path.{_≡_, refl, sym, _∙_, subst}
 use mathlib.Core.List.{List, _++_}
 use Prim.Native.Nat.{ℕ, _+_, _<_, _≤_}
 use native.Mathlib.Omega.{arith}
@@ -11,9 +11,11 @@ use Rattle.octets.proofs.Number.{agree}
 use Rattle.command.specs.declared.Draw.{Draw}
 use Rattle.command.specs.declared.Draw.the-variants.{Closed, Open}
 use Rattle.command.specs.Command.{Found, unit, waiting}
-use Rattle.command.specs.Look.{lookCp, xfWords, xfAddress, lookXf, lookIndexed, lookCall, lookBp, lookHead, lookVertex, byOpcode, lookOf}
-use Rattle.command.proofs.Extends.{Settled, NoUnit, Extends, Heads, look-extends}
-use Rattle.command.proofs.Bounds.{Fair, look-fair}
+use Rattle.command.specs.Look.{lookCp, xfWords, xfAddress, lookXf, lookIndexed, lookCall, lookBp, lookHead, byOpcode, lookOf}
+use Rattle.command.specs.Bounds.{Fair}
+use Rattle.command.specs.Prefix.{Settled, NoUnit, Extends, Heads}
+use Rattle.command.proofs.Extends.{look-extends}
+use Rattle.command.proofs.Bounds.{look-fair}
 
 -- ---- a look reads only the CP registers, the draw, nine bytes and the count
 module _ (a b : List ℕ) (same : (k : ℕ) → k < 9 → getD a k 0 ≡ getD b k 0) where
@@ -43,7 +45,9 @@ module _ (p q : List ℕ) (cp : List ℕ) (draw : Draw) where
   later = lookOf (p ++ q) (length (p ++ q)) cp draw
 
   goes-on : Extends (Heads p (length p) draw) (length p) (length (p ++ q)) now later
-  goes-on = look-extends p (p ++ q) (length p) (length (p ++ q)) (omega (arith, length-append p q)) (λ k h. sym (List·getD-append p q 0 k h)) cp draw
+  goes-on =
+      look-extends p (p ++ q) (length p) (length (p ++ q)) (omega (arith, length-append p q)) (λ k h. sym (List·getD-append p q 0 k h)) cp
+      draw
 
   -- "Answers other than waiting don't change when more bytes are fed."
   pub look-prefix : Settled now → now ≡ later
@@ -58,7 +62,8 @@ module _ (p q : List ℕ) (cp : List ℕ) (draw : Draw) where
   look-just k e h = goes-on .just k e (omega (arith, length-append p q))
 
 -- what is lacking is at least 1, and with what is there at most 129
-pub look-lacking : (p : List ℕ) (cp : List ℕ) (draw : Draw) (k : ℕ) → lookOf p (length p) cp draw ≡ waiting k → (1 ≤ k) × (length p + k ≤ 129)
+pub look-lacking : (p : List ℕ) (cp : List ℕ) (draw : Draw) (k : ℕ) → lookOf p (length p) cp draw ≡ waiting k
+    → (1 ≤ k) × (length p + k ≤ 129)
 look-lacking p cp draw k e = subst (Fair (length p)) e (look-fair p (length p) cp draw)
 
 -- a unit is recognised from its own bytes alone

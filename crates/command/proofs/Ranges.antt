@@ -1,8 +1,8 @@
 -- The fields of a command that was read from bytes fit their registers.
 use mathlib.Core.Path.{_≡_, refl}
-use mathlib.Core.Bool.{Bool, true, false, cond}
-use mathlib.Core.List.{List, [], _∷_}
-use Prim.Native.Nat.{ℕ, zero, suc, _+_, _/_, _%_, _^_, _<_}
+use mathlib.Core.Bool.{false}
+use mathlib.Core.List.{List, _∷_}
+use Prim.Native.Nat.{ℕ, zero, suc, _+_, _/_, _%_}
 use native.Mathlib.Omega.{arith}
 use lib.Dec.{ltb, eqb}
 use lib.ListN.{getD}
@@ -13,21 +13,11 @@ use Rattle.octets.proofs.Number.{Octets, big-lt}
 use Rattle.layout.specs.Answers.{refusalOf, lengthOf}
 use Rattle.command.specs.declared.Draw.{Draw}
 use Rattle.command.specs.declared.Draw.the-variants.{Closed, Open}
-use Rattle.command.specs.Command.{Found, unit, waiting, refused, kindOf, fieldOf, loadBp, drawHead, vertex}
+use Rattle.command.specs.Command.{Found, loadBp, drawHead}
 use Rattle.command.specs.Places.{cpAccepted}
 use Rattle.command.specs.Look.{whole, lookCp, xfCount, xfWords, xfAddress, lookXf, lookIndexed, lookCall, lookBp, descriptorOf}
 use Rattle.command.specs.Look.{unlessRefused, lookHead, lookVertex, isIndexed, isDraw, byOpcode, lookOf}
-
--- the fields of a command that was read fit their registers: a BP number has 24 bits, a primitive and a format three
-pub record Ranged (c : List ℕ) : Type 0 where
-  pub bp : kindOf c ≡ 0x61 → fieldOf c 2 < 2 ^ 24
-  pub head : kindOf c ≡ 0x80 → (fieldOf c 1 < 8) × (fieldOf c 2 < 8)
-
--- of an answer: its command, where it is a unit
-abbrev pub Ranges : Found → Type 0
-Ranges (unit c m l) = Ranged c
-Ranges (waiting k) = Unit {0}
-Ranges (refused r) = Unit {0}
+pub use Rattle.command.specs.Bounds.{Ranged, Ranges}
 
 -- by a literal kind
 differ : {A : Type 0} (a b : ℕ) → eqb a b ≡ false → a ≡ b → A
@@ -42,7 +32,8 @@ unfolding whole
 of-whole n length c m r = cond-both Ranges (ltb n length) (λ _. tt) (λ _. r)
 
 -- a unit of another kind
-of-other : (n length kind : ℕ) (fields : List ℕ) (m : ℕ) → eqb kind 0x61 ≡ false → eqb kind 0x80 ≡ false → Ranges (whole n length (kind ∷ fields) m)
+of-other : (n length kind : ℕ) (fields : List ℕ) (m : ℕ) → eqb kind 0x61 ≡ false → eqb kind 0x80 ≡ false
+    → Ranges (whole n length (kind ∷ fields) m)
 of-other n length kind fields m p q = of-whole n length (kind ∷ fields) m (ranged kind fields p q)
 
 of-unless : (r : ℕ) (x : Found) → Ranges x → Ranges (unlessRefused r x)
@@ -68,7 +59,8 @@ module _ (b : List ℕ) (o : Octets b) (n : ℕ) (cp : List ℕ) where
       (λ _. cond-both Ranges (eqb op 0x48) (λ _. of-other n 1 _ _ 0 refl refl)
       (λ _. cond-both Ranges (eqb op 0x68) (λ _. of-other n 1 _ _ 0 refl refl)
       (λ _. cond-both Ranges (eqb op 0x08)
-      (λ _. cond-both Ranges (ltb n 2) (λ _. tt) (λ _. cond-both Ranges (cpAccepted (getD b 1 0)) (λ _. of-other n 6 _ _ 0 refl refl) (λ _. tt)))
+      (λ _. cond-both Ranges (ltb n 2) (λ _. tt)
+      (λ _. cond-both Ranges (cpAccepted (getD b 1 0)) (λ _. of-other n 6 _ _ 0 refl refl) (λ _. tt)))
       (λ _. cond-both Ranges (eqb op 0x10)
       (λ _. cond-both Ranges (ltb n 5) (λ _. tt)
       (λ _. cond-both Ranges (ltb xfCount (xfAddress b + xfWords b)) (λ _. tt) (λ _. of-other n _ _ _ 0 refl refl)))

@@ -1,11 +1,13 @@
--- A command as a list of numbers, its kind and then its fields: "For any answer that is an enum, a definition gives this paper's
--- number and values for each case." The kind is the opcode, for an indexed load the lowest, for a draw 80, and 01 for a vertex.
+-- A command as a list of numbers, its kind and then its fields:
+-- "For any answer that is an enum, a definition gives this paper's number and values for each case."
+-- The kind is the opcode, for an indexed load the lowest, for a draw 80, and 01 for a vertex.
 use mathlib.Core.List.{List, [], _∷_}
 use Prim.Native.Nat.{ℕ}
 use lib.ListN.{getD}
 use Rattle.refusal.specs.Number.{number}
 use Rattle.command.specs.declared.Command.{Command}
-use Rattle.command.specs.declared.Command.the-variants.{NoOperation, InvalidateCache, Metrics, LoadCp, LoadXf, LoadIndexed, CallList, LoadBp, DrawHead, Vertex}
+use Rattle.command.specs.declared.Command.the-variants.{NoOperation, InvalidateCache, Metrics, LoadCp, LoadXf, LoadIndexed}
+use Rattle.command.specs.declared.Command.the-variants.{CallList, LoadBp, DrawHead, Vertex}
 use Rattle.command.specs.declared.Next.{Next}
 use Rattle.command.specs.declared.Next.the-variants.{Unit, Waiting, Refused}
 
@@ -62,7 +64,8 @@ numbersOf (LoadBp register n) = loadBp register n
 numbersOf (DrawHead primitive format count) = drawHead primitive format count
 numbersOf Vertex = vertex
 
--- what the stream goes on with: a whole unit with its command, the reported memory address and its bytes; a lack of so many bytes; a refusal
+-- what the stream goes on with: a whole unit with its command, the reported memory address and its bytes;
+-- a lack of so many bytes; a refusal
 pub data Found : Type 0 where
   unit : List ℕ → ℕ → ℕ → Found
   waiting : ℕ → Found

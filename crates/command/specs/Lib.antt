@@ -1,3 +1,5 @@
 pub mod Command
 pub mod Places
 pub mod Look
+pub mod Bounds
+pub mod Prefix

@@ -9,7 +9,8 @@ use Rattle.layout.specs.declared.Descriptor.{Descriptor}
 use Rattle.layout.specs.Answers.{refusalOf, lengthOf}
 use Rattle.command.specs.declared.Draw.{Draw}
 use Rattle.command.specs.declared.Draw.the-variants.{Closed, Open}
-use Rattle.command.specs.Command.{Found, unit, waiting, refused, noOperation, invalidateCache, metrics, loadCp, loadXf, loadIndexed, callList, loadBp, drawHead, vertex}
+use Rattle.command.specs.Command.{Found, unit, waiting, refused, noOperation, invalidateCache, metrics}
+use Rattle.command.specs.Command.{loadCp, loadXf, loadIndexed, callList, loadBp, drawHead, vertex}
 use Rattle.command.specs.Places.{cpAccepted, vcdPlace, vatPlace, basePlace, stridePlace}
 
 -- a unit of so many bytes: it waits for those that it lacks
@@ -107,7 +108,7 @@ byOpcode op b n cp =
     (cond (isDraw op) (lookHead op b n cp)
     (refused 6)))))))))
 
--- what n bytes begin with: in an open draw a vertex, else a command; no byte lacks one
+-- what n bytes begin with: in an open draw a vertex, else a command; where no byte is there, one is lacking
 unfoldable pub lookOf : List ℕ → ℕ → List ℕ → Draw → Found
 lookOf b n cp Closed = cond (eqb n 0) (waiting 1) (byOpcode (getD b 0 0) b n cp)
 lookOf b n cp (Open primitive format left) = lookVertex n cp format

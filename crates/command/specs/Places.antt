@@ -23,8 +23,9 @@ basePlace array = 28 + array
 abbrev pub stridePlace : ℕ → ℕ
 stridePlace array = 44 + array
 
--- the place of the register that a CP load's address names, cpCount where it names none. "3X, 4X, 5X, 6X: low four bits ignored,
--- one register each. 70 to 77, 80 to 87, 90 to 97: VAT groups 0, 1, 2 of formats 0 to 7. A0 to AF array bases; B0 to BF strides."
+-- the place of the register that a CP load's address names, cpCount where it names none:
+-- "3X, 4X, 5X, 6X: low four bits ignored, one register each. 70 to 77, 80 to 87, 90 to 97: VAT groups 0, 1, 2 of formats 0 to 7.
+-- A0 to AF array bases ..; B0 to BF strides"
 unfoldable pub cpPlace : ℕ → ℕ
 cpPlace a =
     cond (ltb a 0x30) cpCount
@@ -37,7 +38,7 @@ cpPlace a =
 unfoldable pub cpAccepted : ℕ → Bool
 cpAccepted a = eqb a 0x20 || ltb (cpPlace a) cpCount
 
--- "Arrays by attribute: 0 position, 1 normal, 2 and 3 colours, 4 to 11 textures, 12 to 15 the indexed loads": attributes 9 to 20 of a
--- vertex in their order (`indexedArray` names those of the indexed loads)
+-- "Arrays by attribute: 0 position, 1 normal, 2 and 3 colours, 4 to 11 textures, 12 to 15 the indexed loads": here attributes 9 to 20.
+-- Nothing is fetched, so that of all arrays only 12 to 15 show, in the address that an indexed load reports (`indexedArray`).
 abbrev pub attributeArray : ℕ → ℕ
 attributeArray attribute = attribute - 9

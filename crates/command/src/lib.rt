@@ -65,7 +65,7 @@ pub enum Next {
     Refused(Reason),
 }
 
-// The next command: no byte lacks one, and the first decides its class.
+// The next command: where no byte is there, one is lacking; the first decides its class.
 fn look_command(b: [u8; 9], count: u32, cp: &[u32; 60]) -> Next
     ensures { λ r. ⌜ meaning r ≡ lookOf b count (now (cp .entry)) Draw.Closed ⌝ }
 {

@@ -1,5 +1,5 @@
-// What the stream goes on with, one function for each class of opcode. The bytes are the first nine, zeros past the last; `count` is how many
-// there are in all.
+// What the stream goes on with, one function for each class of opcode.
+// The bytes are the first nine, zeros past the last; `count` is how many there are in all.
 use crate::Command;
 use crate::Next;
 use crate::places;
@@ -9,7 +9,8 @@ use refusal::Reason;
 ghost use mathlib.Core.Path.{_≡_};
 ghost use Prim.Native.Nat.{_+_, _<_, _≤_};
 ghost use Rattle.command.specs.Command.{numbersOf, meaning};
-ghost use Rattle.command.specs.Look.{whole, lookCp, lookXf, lookIndexed, lookCall, lookBp, lookHead, lookVertex, memoryOf, descriptorOf};
+ghost use Rattle.command.specs.Look.{whole, lookCp, lookXf, lookIndexed, lookCall};
+ghost use Rattle.command.specs.Look.{lookBp, lookHead, lookVertex, memoryOf, descriptorOf};
 
 // A unit of so many bytes: it waits for those that it lacks.
 pub fn unit(count: u32, length: u32, command: Command, memory: u32) -> Next

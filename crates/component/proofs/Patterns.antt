@@ -68,7 +68,7 @@ decoded f raw s {r} e = record {
   exact = λ h. subst (λ (x : Float). Exact (integerOf f raw) (s % 32) (toBits binary32 x)) (sym e) (component-exact f raw s h);
   kept = λ h n. ap (λ (x : Float). toBits binary32 x) (e ∙ component-single f raw s h) ∙ kept-bits (patternOf f raw)
       (single-lt f raw h) n;
-  none = λ h n. e ∙ component-single f raw s h ∙ nan-bits (patternOf f raw) n;
+  nan-is = λ h n. e ∙ component-single f raw s h ∙ nan-bits (patternOf f raw) n;
 }
 
 -- a component of the integer format k, from its integer

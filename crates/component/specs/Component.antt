@@ -1,5 +1,5 @@
--- "Component formats 0 to 4 have 1, 1, 2, 2, 4 bytes (u8, s8, u16, s16, f32)": a component's bytes, its integer, and the single it
--- decodes to.
+-- "Component formats 0 to 4 have 1, 1, 2, 2, 4 bytes (u8, s8, u16, s16, f32)":
+-- a component's bytes, its integer, and the single it decodes to.
 use mathlib.Core.Path.{_≡_}
 use mathlib.Core.Bool.{Bool, true, false, not, cond}
 use Prim.Native.Nat.{ℕ, zero, suc, _-_, _*_, _%_, _^_, _<_, _≤_}
@@ -50,10 +50,10 @@ pub record Quotient (z : ℤ) (s : ℕ) (r : Float) : Type 0 where
   pub is : r ≡ quotientOf z s
   pub exact : Exact z s (toBits binary32 r)
 
--- what a component r promises: which single it is; in an integer format that it is exact; in f32 that it keeps every pattern but a NaN's,
--- and is a NaN for those
+-- what a component r promises: which single it is; in an integer format that it is exact;
+-- in f32 that it keeps every pattern but a NaN's, and is a NaN for those
 pub record Decoded (format raw s : ℕ) (r : Float) : Type 0 where
   pub is : r ≡ componentOf format raw s
   pub exact : format < 4 → Exact (integerOf format raw) (s % 32) (toBits binary32 r)
   pub kept : 4 ≤ format → T (not (nanBits binary32 (patternOf format raw))) → toBits binary32 r ≡ patternOf format raw
-  pub none : 4 ≤ format → T (nanBits binary32 (patternOf format raw)) → r ≡ nan
+  pub nan-is : 4 ≤ format → T (nanBits binary32 (patternOf format raw)) → r ≡ nan

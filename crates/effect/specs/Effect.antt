@@ -1,7 +1,7 @@
 -- What a command does to the registers, the XF words, the vertex buffer and the open draw ("Units of the stream").
 -- A command is its list of numbers, kind and fields; what it does not name stays.
 use mathlib.Core.Path.{_≡_}
-use mathlib.Core.Bool.{Bool, cond, _&&_}
+use mathlib.Core.Bool.{cond, _&&_}
 use mathlib.Core.List.{List, _++_}
 use Prim.Native.Nat.{ℕ, zero, suc, _+_, _-_, _*_, _%_, _^_}
 use lib.Bits.{bitAnd, bitOr, bitXor}
@@ -28,7 +28,7 @@ cpAfter c cp = cond (eqb (kindOf c) 0x08) (loadedCp cp (fieldOf c 1) (fieldOf c 
 
 -- ---- "BP load"
 
--- "new = old outside m, number inside m"
+-- "new = old outside m, number inside m", of 24-bit numbers; wider ones are refused by 1
 unfoldable pub masked : ℕ → ℕ → ℕ → ℕ
 masked old mask n = bitOr (bitAnd old (bitXor 0xFFFFFF mask)) (bitAnd n mask)
 

@@ -5,7 +5,8 @@ ghost use mathlib.Core.Path.{_≡_};
 ghost use Prim.Native.Nat.{_+_, _*_, _≤_};
 ghost use lib.ListN.{length};
 ghost use Rattle.command.specs.Command.{numbersOf};
-ghost use Rattle.effect.specs.Effect.{keptOf, loadedCp, loadedBp, loadedXf, storedXf, copied, drawAfter, openedBy, countedDown, masked, Applied};
+ghost use Rattle.effect.specs.Effect.{keptOf, loadedCp, loadedBp, loadedXf, storedXf, copied};
+ghost use Rattle.effect.specs.Effect.{drawAfter, openedBy, countedDown, masked, Applied};
 
 // What a CP register keeps of a number.
 fn kept(address: u8, number: u32) -> u32
@@ -152,7 +153,9 @@ pub fn apply(
     xf: &mut [u32],
     buffer: &mut [u8],
 )
-    ensures { λ _. ⌜ Applied (numbersOf command) (now (bytes .entry)) (now (cp .entry)) (now (bp .entry)) (now (xf .entry)) (now (buffer .entry)) (now (cp .exit)) (now (bp .exit)) (now (xf .exit)) (now (buffer .exit)) ⌝ }
+    ensures { λ _. ⌜ Applied (numbersOf command) (now (bytes .entry))
+        (now (cp .entry)) (now (bp .entry)) (now (xf .entry)) (now (buffer .entry))
+        (now (cp .exit)) (now (bp .exit)) (now (xf .exit)) (now (buffer .exit)) ⌝ }
 {
     match command {
         Command::LoadBp { register, number } => load_bp(bp, register, number),

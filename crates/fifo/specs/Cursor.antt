@@ -1,5 +1,5 @@
--- The cursor: the pending bytes as the processor reads them. Every call on it is total by its definition: a byte past the last, or at a
--- place outside the ring, reads 0.
+-- The cursor: the pending bytes as the processor reads them.
+-- Every call on it is total by its definition: a byte past the last, or at a place outside the ring, reads 0.
 use Prim.Native.Nat.{ℕ, _+_, _-_, _≤_, min}
 use mathlib.Core.Path.{_≡_}
 use mathlib.Core.Bool.{Bool, true, cond, _&&_}

@@ -57,7 +57,7 @@ readyBy f length = validBy (f .window) && eqb length (sizeOf (f .window))
 unfoldable pub countOf : Window → ℕ
 countOf w = (w .write + sizeOf w - w .read) % sizeOf w
 
--- the count without a remainder, total: what the code computes
+-- the count of a valid window (`gap-count`), total for others: what the code computes
 unfoldable pub gapOf : Window → ℕ
 gapOf w = cond (leb (w .read) (w .write)) (w .write - w .read) (sizeOf w - (w .read - w .write))
 

@@ -13,7 +13,8 @@ ghost use Prim.Native.Nat.{_<_};
 ghost use lib.ListN.{getD, set};
 ghost use Rattle.fifo.specs.Window.{Valid, withWindow, withControl};
 ghost use Rattle.fifo.specs.Answers.{meaningOfReading, ChangedBy};
-ghost use Rattle.fifo.specs.Registers.{words, fromWords, halfOf, withHalf, listed, computed, readable, writable, statusOf, readAnswer, writeAnswer, written};
+ghost use Rattle.fifo.specs.Registers.{words, fromWords, halfOf, withHalf, listed, computed};
+ghost use Rattle.fifo.specs.Registers.{readable, writable, statusOf, readAnswer, writeAnswer, written};
 
 // Even, and one of 000, 002, 004 and 020 to 03A.
 fn is_listed(offset: u16) -> bool

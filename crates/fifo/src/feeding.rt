@@ -52,7 +52,8 @@ fn accepting(fifo: Fifo, n: u32) -> Fifo
     with_window(fifo, window)
 }
 
-// Feeds bytes: 1 for a window or a ring that breaks the rules, then 11 for more bytes than there is room for; a refused feed changes nothing.
+// Feeds bytes: 1 for a window or a ring that breaks the rules, then 11 for more bytes than there is room for;
+// a refused feed changes nothing.
 pub fn feed(fifo: Fifo, ring: &mut [u8], bytes: &[u8]) -> Changed
     ensures { λ r. ⌜ FedBy fifo (now (ring .entry)) (now (bytes .entry)) r (now (ring .exit)) ⌝ }
 {

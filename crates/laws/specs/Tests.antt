@@ -2,7 +2,7 @@
 use mathlib.Core.Bool.{Bool, true, _&&_}
 use mathlib.Core.List.{List, [], _∷_}
 
--- whether a test and all of a list hold, in the order of the code's `&`
+-- whether a test and all of a list hold
 abbrev pub allFrom : Bool → List Bool → Bool
 allFrom t [] = t
 allFrom t (u ∷ us) = allFrom (t && u) us

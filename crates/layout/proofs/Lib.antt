@@ -1,3 +1,4 @@
 pub mod Tests
 pub mod Bounds
 pub mod Meanings
+pub mod Ignored

@@ -1,6 +1,8 @@
--- "VCD group 0: bits 0 to 8 matrices, then two bits each from 9 .. VAT fields stand as in 004's table": what a descriptor says of
--- attribute k. The attributes in document 01's order: 0 the position matrix, 1 to 8 texture matrices, 9 position, 10 normal, 11 and 12
--- colours, 13 to 20 textures.
+-- What a descriptor says of attribute k:
+-- "VCD group 0: bits 0 to 8 matrices, then two bits each from 9 .. VAT fields stand as in 004's table."
+-- The attributes in document 01's order:
+-- 0 the position matrix, 1 to 8 texture matrices, 9 position, 10 normal, 11 and 12 colours, 13 to 20 textures.
+use mathlib.Core.Path.{_≡_}
 use mathlib.Core.Bool.{cond, _&&_}
 use mathlib.Core.List.{List, [], _∷_}
 use Prim.Native.Nat.{ℕ, _+_, _/_, _%_, _^_}
@@ -13,8 +15,8 @@ use Rattle.layout.specs.declared.Field.{Field}
 abbrev pub words : Descriptor → List ℕ
 words d = d .vcd0 ∷ d .vcd1 ∷ d .vat0 ∷ d .vat1 ∷ d .vat2 ∷ []
 
--- the bits from a place on, modulo q: bit b of VCD group g stands at 32 * g + b, of VAT group g at 64 + 32 * g + b; past the last word
--- all is 0
+-- the bits from a place on, modulo q: bit b of VCD group g stands at 32 * g + b, of VAT group g at 64 + 32 * g + b;
+-- past the last word all is 0
 unfoldable pub bitsAt : Descriptor → ℕ → ℕ → ℕ
 bitsAt d place q = getD (words d) (place / 32) 0 / 2 ^ (place % 32) % q
 
@@ -54,8 +56,8 @@ countOf d k = bitsAt d (placeIn counts k) 2
 unfoldable pub formatOf : Descriptor → ℕ → ℕ
 formatOf d k = bitsAt d (placeIn formats k) 8
 
--- "The shift is 0 for 8-bit components where group 0 bit 30 is clear, and for all normals": of attribute, format, that bit and the VAT's
--- shift
+-- "The shift is 0 for 8-bit components where group 0 bit 30 is clear, and for all normals":
+-- of attribute, format, that bit and the VAT's shift
 unfoldable pub fractionBits : ℕ → ℕ → ℕ → ℕ → ℕ
 fractionBits k format bit30 shift = cond (eqb k 10) 0 (cond (ltb format 2 && eqb bit30 0) 0 shift)
 
@@ -70,3 +72,11 @@ indicesOf d k = cond (eqb k 10 && (eqb (countOf d 10) 1 && eqb (bitsAt d (64 + 3
 -- all of it
 abbrev pub fieldOf : Descriptor → ℕ → Field
 fieldOf d k = record { mode = modeOf d k; count = countOf d k; format = formatOf d k; fraction = fractionOf d k; indices = indicesOf d k }
+
+-- "VCD bits not named here are kept and ignored": descriptors that differ in such bits alone, above the 17 and the 16 that are named
+pub record Alike (d e : Descriptor) : Type 0 where
+  pub vcd0-is : d .vcd0 % 2 ^ 17 ≡ e .vcd0 % 2 ^ 17
+  pub vcd1-is : d .vcd1 % 2 ^ 16 ≡ e .vcd1 % 2 ^ 16
+  pub vat0-is : d .vat0 ≡ e .vat0
+  pub vat1-is : d .vat1 ≡ e .vat1
+  pub vat2-is : d .vat2 ≡ e .vat2

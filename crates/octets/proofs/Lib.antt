@@ -1,3 +1,3 @@
 pub mod Number
 pub mod Written
-pub mod Least
+pub mod AtMostFour

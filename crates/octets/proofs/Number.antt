@@ -1,14 +1,14 @@
 -- Laws of big-endian numbers, for every number of bytes.
-use mathlib.Core.Path.{_≡_, refl, sym, ap, _∙_, subst}
-use mathlib.Core.List.{List, [], _∷_, _++_}
-use Prim.Native.Nat.{ℕ, zero, suc, _+_, _-_, _*_, _/_, _%_, _^_, _<_, _≤_}
+use mathlib.Core.Path.{_≡_, refl, ap, subst}
+use mathlib.Core.List.{List, [], _∷_}
+use Prim.Native.Nat.{ℕ, zero, suc, _+_, _-_, _*_, _^_, _<_, _≤_}
 use native.Mathlib.Nat.{pow-succ', lt-of-lt-of-le, add-zero}
 use native.Mathlib.Numerals.{add-one}
 use native.Mathlib.Omega.{arith}
 use lib.Dec.{lit≤, lit<}
-use lib.ListN.{length, getD, take, drop, length-append, List·getD-append}
-use lib.Seq.{getD-append-add, take-suc, getD-drop}
-use Rattle.octets.specs.BigEndian.{bigEndian, bytesOf}
+use lib.ListN.{getD, take, drop}
+use lib.Seq.{getD-drop}
+use Rattle.octets.specs.BigEndian.{bigEndian}
 
 -- a list of bytes
 abbrev pub Octets : List ℕ → Type 0
@@ -58,7 +58,8 @@ pub three-bytes : (l : List ℕ) (at : ℕ) → bigEndian l at 3 ≡ (getD l at 
 unfolding bigEndian
 three-bytes l at = rw (add-zero at) (omega arith)
 
-pub four-bytes : (l : List ℕ) (at : ℕ) → bigEndian l at 4 ≡ ((getD l at 0 * 256 + getD l (at + 1) 0) * 256 + getD l (at + 2) 0) * 256 + getD l (at + 3) 0
+pub four-bytes : (l : List ℕ) (at : ℕ)
+    → bigEndian l at 4 ≡ ((getD l at 0 * 256 + getD l (at + 1) 0) * 256 + getD l (at + 2) 0) * 256 + getD l (at + 3) 0
 unfolding bigEndian
 four-bytes l at = rw (add-zero at) (omega arith)
 

@@ -1,11 +1,10 @@
 -- A number is read back from the bytes that are written for it, and bytes are written back from the number that was read.
-use mathlib.Core.Path.{_≡_, refl, sym, ap, _∙_}
+use mathlib.Core.Path.{_≡_, refl, ap, _∙_}
 use mathlib.Core.List.{List, [], _∷_, _++_, append-assoc}
 use Prim.Native.Nat.{ℕ, zero, suc, _+_, _*_, _/_, _%_, _^_, _<_, _≤_}
-use native.Mathlib.Nat.{pow-succ', add-zero, zero-add}
-use native.Mathlib.Numerals.{add-one}
+use native.Mathlib.Nat.{pow-succ', zero-add}
 use native.Mathlib.Omega.{arith}
-use lib.ListN.{length, getD, take, drop, length-append, length-drop, List·getD-append}
+use lib.ListN.{length, getD, take, drop, length-append, length-drop}
 use lib.Seq.{getD-append-add, take-suc, getD-drop, getD-at}
 use Rattle.octets.specs.BigEndian.{bigEndian, bytesOf}
 use Rattle.octets.proofs.Number.{Octets}
@@ -32,7 +31,12 @@ front zero v y h = omega arith
 front (suc n) v y h =
     let high : v / 256 < 256 ^ n = below (256 ^ n) v (rw (pow-succ' 256 n) at h) in
     let l : length (bytesOf n (v / 256)) ≡ n = length-bytes n (v / 256) in
-    rw (append-assoc, front n (v / 256) ((v % 256 ∷ []) ++ y) high, zero-add n, getD-at (bytesOf n (v / 256)) (v % 256) y 0 n l) (omega arith)
+    rw (
+      append-assoc,
+      front n (v / 256) ((v % 256 ∷ []) ++ y) high,
+      zero-add n,
+      getD-at (bytesOf n (v / 256)) (v % 256) y 0 n l,
+    ) (omega arith)
   where
     below : (p v : ℕ) → v < 256 * p → v / 256 < p
     below p v h = omega arith

@@ -16,5 +16,5 @@ bytesOf zero v = []
 bytesOf (suc n) v = bytesOf n (v / 256) ++ (v % 256 ∷ [])
 
 -- at most four bytes make a 32-bit number
-abbrev pub least : ℕ → ℕ
-least n = cond (ltb n 4) n 4
+abbrev pub atMostFour : ℕ → ℕ
+atMostFour n = cond (ltb n 4) n 4

@@ -2,7 +2,7 @@
 ghost use mathlib.Core.Path.{_≡_};
 ghost use Prim.Native.Nat.{_+_, _*_, _<_, _≤_};
 ghost use lib.ListN.{getD};
-ghost use Rattle.octets.specs.BigEndian.{bigEndian, least};
+ghost use Rattle.octets.specs.BigEndian.{bigEndian, atMostFour};
 
 // The byte at a place, 0 past the end.
 pub fn byte(bytes: &[u8], at: usize) -> u8
@@ -13,14 +13,14 @@ pub fn byte(bytes: &[u8], at: usize) -> u8
 
 // At most four.
 fn capped(n: u32) -> u32
-    ensures { λ r. ⌜ (r ≡ least n) × (r ≤ 4) ⌝ }
+    ensures { λ r. ⌜ (r ≡ atMostFour n) × (r ≤ 4) ⌝ }
 {
     if n < 4 { n } else { 4 }
 }
 
 // The number of the n bytes from place `at` on; a place past the end reads 0, and more than four bytes count as four.
 pub fn read(bytes: &[u8], at: u32, n: u32) -> u32
-    ensures { λ r. ⌜ r ≡ bigEndian (now (bytes .entry)) at (least n) ⌝ }
+    ensures { λ r. ⌜ r ≡ bigEndian (now (bytes .entry)) at (atMostFour n) ⌝ }
 {
     let wide = capped(n);
     let mut number: u32 = 0;

@@ -4,10 +4,34 @@ use mathlib.Core.List.{List, [], _∷_}
 use Prim.Native.Nat.{ℕ, zero, suc}
 use Rattle.refusal.specs.Number.{number}
 use Rattle.refusal.specs.declared.Reason.{Reason}
-use Rattle.refusal.specs.declared.Reason.the-variants.{InvalidState, XfMemoryLength, VertexBufferShort, ReadDisabled, LinkedMode, UnknownOpcode, UnknownCpAddress, XfLoadPastEnd, PositionAbsent, UnknownFormat, FeedTooLong, PatchLength, PatchOfMaskRegister, PatchMaskTooWide, PatchNumberOutsideMask, OutputShort, UnknownOffset, UnwritableCommand, NotOfLayout}
+use Rattle.refusal.specs.declared.Reason.the-variants.{InvalidState, XfMemoryLength, VertexBufferShort, ReadDisabled}
+use Rattle.refusal.specs.declared.Reason.the-variants.{LinkedMode, UnknownOpcode, UnknownCpAddress, XfLoadPastEnd}
+use Rattle.refusal.specs.declared.Reason.the-variants.{PositionAbsent, UnknownFormat, FeedTooLong, PatchLength}
+use Rattle.refusal.specs.declared.Reason.the-variants.{PatchOfMaskRegister, PatchMaskTooWide, PatchNumberOutsideMask, OutputShort}
+use Rattle.refusal.specs.declared.Reason.the-variants.{UnknownOffset, UnwritableCommand, NotOfLayout}
 
 reasons : List Reason
-reasons = InvalidState ∷ XfMemoryLength ∷ VertexBufferShort ∷ ReadDisabled ∷ LinkedMode ∷ UnknownOpcode ∷ UnknownCpAddress ∷ XfLoadPastEnd ∷ PositionAbsent ∷ UnknownFormat ∷ FeedTooLong ∷ PatchLength ∷ PatchOfMaskRegister ∷ PatchMaskTooWide ∷ PatchNumberOutsideMask ∷ OutputShort ∷ UnknownOffset ∷ UnwritableCommand ∷ NotOfLayout ∷ []
+reasons =
+    InvalidState
+    ∷ XfMemoryLength
+    ∷ VertexBufferShort
+    ∷ ReadDisabled
+    ∷ LinkedMode
+    ∷ UnknownOpcode
+    ∷ UnknownCpAddress
+    ∷ XfLoadPastEnd
+    ∷ PositionAbsent
+    ∷ UnknownFormat
+    ∷ FeedTooLong
+    ∷ PatchLength
+    ∷ PatchOfMaskRegister
+    ∷ PatchMaskTooWide
+    ∷ PatchNumberOutsideMask
+    ∷ OutputShort
+    ∷ UnknownOffset
+    ∷ UnwritableCommand
+    ∷ NotOfLayout
+    ∷ []
 
 -- the reason at a place of a list, and the first of the table past its end
 nth : List Reason → ℕ → Reason

@@ -1,7 +1,11 @@
 -- "A refusal carries its number from document 01": the table "Numbers a caller may get", a line for each case.
 use Prim.Native.Nat.{ℕ}
 use Rattle.refusal.specs.declared.Reason.{Reason}
-use Rattle.refusal.specs.declared.Reason.the-variants.{InvalidState, XfMemoryLength, VertexBufferShort, ReadDisabled, LinkedMode, UnknownOpcode, UnknownCpAddress, XfLoadPastEnd, PositionAbsent, UnknownFormat, FeedTooLong, PatchLength, PatchOfMaskRegister, PatchMaskTooWide, PatchNumberOutsideMask, OutputShort, UnknownOffset, UnwritableCommand, NotOfLayout}
+use Rattle.refusal.specs.declared.Reason.the-variants.{InvalidState, XfMemoryLength, VertexBufferShort, ReadDisabled}
+use Rattle.refusal.specs.declared.Reason.the-variants.{LinkedMode, UnknownOpcode, UnknownCpAddress, XfLoadPastEnd}
+use Rattle.refusal.specs.declared.Reason.the-variants.{PositionAbsent, UnknownFormat, FeedTooLong, PatchLength}
+use Rattle.refusal.specs.declared.Reason.the-variants.{PatchOfMaskRegister, PatchMaskTooWide, PatchNumberOutsideMask, OutputShort}
+use Rattle.refusal.specs.declared.Reason.the-variants.{UnknownOffset, UnwritableCommand, NotOfLayout}
 
 -- the number of a refusal
 abbrev pub number : Reason → ℕ

@@ -1,4 +1,5 @@
 // Why a call or a unit of the stream is refused: one case for each number of document 01's table, named by what is wrong.
+// A patch is document 01's correction sheet.
 ghost use mathlib.Core.Path.{_≡_};
 ghost use Rattle.refusal.specs.Number.{number};
 

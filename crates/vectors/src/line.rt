@@ -47,3 +47,24 @@ pub fn write(name: &[u8], n: u32) {
     io::write_all(STDOUT_FILENO, &digits[first..]);
     io::write_all(STDOUT_FILENO, b"\n");
 }
+
+// The lowest digit in hexadecimal.
+fn hex_digit(n: u32) -> u8 {
+    if n % 16 < 10 {
+        return 48 + (n % 16) as u8;
+    }
+    55 + (n % 16) as u8
+}
+
+// A vector's name and the low 16 bits of its result in hexadecimal.
+pub fn write_hex(name: &[u8], n: u32) {
+    let digits = [
+        hex_digit(n / 4096),
+        hex_digit(n / 256),
+        hex_digit(n / 16),
+        hex_digit(n),
+    ];
+    io::write_all(STDOUT_FILENO, name);
+    io::write_all(STDOUT_FILENO, &digits);
+    io::write_all(STDOUT_FILENO, b"\n");
+}

@@ -1,7 +1,7 @@
 -- The numbers of an answer determine it: each attribute is found again from its kind and values, as floats of single precision are from
 -- their bits.
 use mathlib.Core.Path.{_≡_, refl, sym, ap, _∙_}
-use mathlib.Core.List.{List, []}
+use mathlib.Core.List.{List}
 use Prim.Native.Nat.{ℕ, zero, suc}
 use native.Mathlib.Omega.{arith}
 use lib.Dec.{T}

@@ -10,8 +10,8 @@ use lib.ListN.{replicate}
 use lib.Ieee.{Float, binary32, ofBits, toBits, nanBits}
 use borrow.Author.Tests.{eq-eqb, ne-eqb, lt-ltb, le-ltb}
 use Rattle.laws.specs.Values.{upTo}
-use Rattle.octets.specs.BigEndian.{bigEndian, least}
-use Rattle.octets.proofs.Least.{least-is}
+use Rattle.octets.specs.BigEndian.{bigEndian, atMostFour}
+use Rattle.octets.proofs.AtMostFour.{at-most-four}
 use Rattle.component.specs.Component.{widthOf, componentOf}
 use Rattle.component.proofs.Widths.{width-le}
 use Rattle.component.proofs.Patterns.{kept-bits}
@@ -24,13 +24,13 @@ use Rattle.vertex.specs.Attributes.{indexList, attributeList, singlesOf}
 use Rattle.vertex.specs.Answers.{tripleBits}
 
 -- ---- one component
-pub component-is : (l : List ℕ) (at f s i w raw : ℕ) {r : Float} → w ≡ widthOf f → raw ≡ bigEndian l (at + i * w) (least w)
+pub component-is : (l : List ℕ) (at f s i w raw : ℕ) {r : Float} → w ≡ widthOf f → raw ≡ bigEndian l (at + i * w) (atMostFour w)
     → r ≡ componentOf f raw s → r ≡ componentAt l at f s i
 unfolding componentAt rawAt
 component-is l at f s i w raw {r} p q e =
     e ∙ ap (λ (x : ℕ). componentOf f x s)
-    (q ∙ ap (λ (x : ℕ). bigEndian l (at + i * x) (least x)) p ∙ ap (λ (x : ℕ). bigEndian l (at + i * widthOf f) x)
-    (least-is (widthOf f) (width-le f)))
+    (q ∙ ap (λ (x : ℕ). bigEndian l (at + i * x) (atMostFour x)) p ∙ ap (λ (x : ℕ). bigEndian l (at + i * widthOf f) x)
+    (at-most-four (widthOf f) (width-le f)))
 
 -- +0 by its bits
 pub zero-bits : toBits binary32 (ofBits binary32 0) ≡ 0
@@ -114,10 +114,10 @@ module _ (l : List ℕ) (at f s : ℕ) where
 
 -- ---- a direct attribute, by its number
 module _ (l : List ℕ) (at k count f s : ℕ) where
-  pub direct-colour : (n : ℕ) → isColour k ≡ true → n ≡ bigEndian l at (least (colourWidth f)) → colourWidth f ≤ 4
+  pub direct-colour : (n : ℕ) → isColour k ≡ true → n ≡ bigEndian l at (atMostFour (colourWidth f)) → colourWidth f ≤ 4
       → 4 ∷ n ∷ [] ≡ directList l at k count f s
   unfolding directList
-  direct-colour n e p h = rw e (ap (λ (x : ℕ). 4 ∷ x ∷ []) (p ∙ ap (λ (x : ℕ). bigEndian l at x) (least-is (colourWidth f) h)))
+  direct-colour n e p h = rw e (ap (λ (x : ℕ). 4 ∷ x ∷ []) (p ∙ ap (λ (x : ℕ). bigEndian l at x) (at-most-four (colourWidth f) h)))
 
   pub direct-other : isColour k ≡ false → componentList l at k count f s ≡ directList l at k count f s
   unfolding directList
@@ -129,15 +129,15 @@ module _ (l : List ℕ) (at k count f s : ℕ) where
 
 -- ---- indices
 module _ (l : List ℕ) (at times n : ℕ) (small : n ≤ 2) where
-  whole : least n ≡ n
-  whole = least-is n (omega arith)
+  whole : atMostFour n ≡ n
+  whole = at-most-four n (omega arith)
 
-  pub index-told : (x : ℕ) → (times ≡ 3 → ⊥) → x ≡ bigEndian l at (least n) → 2 ∷ x ∷ [] ≡ indexList l at times n
+  pub index-told : (x : ℕ) → (times ≡ 3 → ⊥) → x ≡ bigEndian l at (atMostFour n) → 2 ∷ x ∷ [] ≡ indexList l at times n
   unfolding indexList
   index-told x h p = rw (ne-eqb times 3 h) (ap (λ (y : ℕ). 2 ∷ y ∷ []) (p ∙ ap (λ (m : ℕ). bigEndian l at m) whole))
 
-  pub indices-told : (x y z : ℕ) → times ≡ 3 → x ≡ bigEndian l at (least n) → y ≡ bigEndian l (at + n) (least n)
-      → z ≡ bigEndian l (at + 2 * n) (least n) → 3 ∷ x ∷ y ∷ z ∷ [] ≡ indexList l at times n
+  pub indices-told : (x y z : ℕ) → times ≡ 3 → x ≡ bigEndian l at (atMostFour n) → y ≡ bigEndian l (at + n) (atMostFour n)
+      → z ≡ bigEndian l (at + 2 * n) (atMostFour n) → 3 ∷ x ∷ y ∷ z ∷ [] ≡ indexList l at times n
   unfolding indexList
   indices-told x y z h p q r =
       let p′ : x ≡ bigEndian l at n = p ∙ ap (λ (m : ℕ). bigEndian l at m) whole in

@@ -2,7 +2,7 @@
 -- there.
 use mathlib.Core.Path.{_≡_, refl, sym, ap, _∙_, subst}
 use mathlib.Core.Bool.{true, false, not, _&&_}
-use mathlib.Core.List.{List, [], _∷_}
+use mathlib.Core.List.{List, _∷_}
 use Prim.Native.Nat.{ℕ, suc, _+_, _-_, _*_, _<_, _≤_}
 use native.Mathlib.Nat.{mod-eq-of-lt}
 use native.Mathlib.Omega.{arith}
@@ -102,8 +102,8 @@ decodes d k l r b e = record {
       (bits-exact d k l i f);
   kept = λ i h f n. stands i h ∙ known d k l i .kept (four f) (subst (λ (x : ℕ). T (not (nanBits binary32 x)))
       (sym (whole d k l b i f)) n) ∙ whole d k l b i f;
-  none = λ i h f n. stands i h ∙ ap (λ (x : Float). toBits binary32 x)
-      (known d k l i .none (four f) (subst (λ (x : ℕ). T (nanBits binary32 x)) (sym (whole d k l b i f)) n)) ∙ nan-bits;
+  nan-is = λ i h f n. stands i h ∙ ap (λ (x : Float). toBits binary32 x)
+      (known d k l i .nan-is (four f) (subst (λ (x : ℕ). T (nanBits binary32 x)) (sym (whole d k l b i f)) n)) ∙ nan-bits;
 }
   where
     stands : (i : ℕ) → HasComponent d k l i → getD (meaning r) (2 + i) 0 ≡ bitsOf l (offsetOf d k) (formatOf d k) (fractionOf d k) i

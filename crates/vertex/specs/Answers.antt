@@ -26,7 +26,7 @@ use Rattle.vertex.specs.declared.RawAnswer.the-variants as raw
 use Rattle.vertex.specs.declared.RawWords.{RawWords}
 use Rattle.vertex.specs.Attributes.{rawAt, attributeList, singlesOf, wordsOf}
 
--- a float by its bits; a NaN, whatever its pattern was, is 7FC00000
+-- a float by its bits: 7FC00000 is the number that this list gives to a NaN; compiled code may hold any NaN pattern
 abbrev pub bits : Float → ℕ
 bits x = toBits binary32 x
 
@@ -51,11 +51,6 @@ abbrev pub meaning : Answer → List ℕ
 meaning (Done a) = 0 ∷ told a
 meaning (answer.Refused r) = number r ∷ []
 
--- a place: the refusal's number alone, or 0 and the place
-abbrev pub located : Place → List ℕ
-located (place.At n) = 0 ∷ n ∷ []
-located (place.Refused r) = number r ∷ []
-
 -- a count of raw words: the refusal's number alone, or 0 and the count
 abbrev pub rawMeaning : RawAnswer → List ℕ
 rawMeaning (raw.Count n) = 0 ∷ n ∷ []
@@ -68,10 +63,6 @@ refusalAt d k l = cond (eqb (refusalOf d) 0) (cond (ltb k 21 && eqb (length l) (
 -- the refusal alone, or 0 and what is accepted
 abbrev pub unless : ℕ → List ℕ → List ℕ
 unless refusal l = cond (eqb refusal 0) (0 ∷ l) (refusal ∷ [])
-
--- where attribute k starts
-abbrev pub locationOf : Descriptor → ℕ → List ℕ → List ℕ
-locationOf d k l = unless (refusalAt d k l) (offsetOf d k ∷ [])
 
 -- what attribute k decodes to
 abbrev pub decodingOf : Descriptor → ℕ → List ℕ → List ℕ
@@ -91,15 +82,16 @@ pub record HasComponent (d : Descriptor) (k : ℕ) (l : List ℕ) (i : ℕ) : Ty
 abbrev pub rawOf : Descriptor → ℕ → List ℕ → ℕ → ℕ
 rawOf d k l i = rawAt l (offsetOf d k) (formatOf d k) i
 
--- what `decode` promises: which answer it is; that each component of an integer format is exactly its integer over 2 to the fraction
--- bits; that each f32 keeps its pattern, and is a NaN where that is one's
+-- what `decode` promises: which answer it is;
+-- that each component of an integer format is exactly its integer over 2 to the fraction bits;
+-- that each f32 keeps its pattern, and is a NaN where that is one's
 pub record Decodes (d : Descriptor) (k : ℕ) (l : List ℕ) (r : Answer) : Type 0 where
   pub meaning-is : meaning r ≡ decodingOf d k l
   pub exact : (i : ℕ) → HasComponent d k l i → formatOf d k < 4
       → Exact (integerOf (formatOf d k) (rawOf d k l i)) (fractionOf d k) (getD (meaning r) (2 + i) 0)
   pub kept : (i : ℕ) → HasComponent d k l i → formatOf d k ≡ 4 → T (not (nanBits binary32 (rawOf d k l i)))
       → getD (meaning r) (2 + i) 0 ≡ rawOf d k l i
-  pub none : (i : ℕ) → HasComponent d k l i → formatOf d k ≡ 4 → T (nanBits binary32 (rawOf d k l i))
+  pub nan-is : (i : ℕ) → HasComponent d k l i → formatOf d k ≡ 4 → T (nanBits binary32 (rawOf d k l i))
       → getD (meaning r) (2 + i) 0 ≡ 0x7FC00000
 
 -- what `raw_words` promises: how many f32 components there are, and nine words, all 0 where it is refused
@@ -129,3 +121,14 @@ SingleAttribute (Frame u v w) = SingleTriple u × SingleTriple v × SingleTriple
 abbrev pub SingleAnswer : Answer → Type 0
 SingleAnswer (Done a) = SingleAttribute a
 SingleAnswer (answer.Refused r) = Unit {0}
+
+-- ---- for the code's own functions
+
+-- a place: the refusal's number alone, or 0 and the place
+abbrev pub located : Place → List ℕ
+located (place.At n) = 0 ∷ n ∷ []
+located (place.Refused r) = number r ∷ []
+
+-- where attribute k starts
+abbrev pub locationOf : Descriptor → ℕ → List ℕ → List ℕ
+locationOf d k l = unless (refusalAt d k l) (offsetOf d k ∷ [])

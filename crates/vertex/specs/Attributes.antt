@@ -1,6 +1,6 @@
 -- "An attribute decodes to one of: absent, matrix number, one index, three indices, a raw colour number, or floating-point components":
--- the kind and the values of attribute k, floats by their bits. The kinds: 0 absent, 1 matrix, 2 one index, 3 three, 4 raw colour, 5
--- position, 6 texture, 7 normal of three components, 8 of nine.
+-- the kind and the values of attribute k, floats by their bits.
+-- The kinds: 0 absent, 1 matrix, 2 one index, 3 three, 4 raw colour, 5 position, 6 texture, 7 normal of three components, 8 of nine.
 use mathlib.Core.Bool.{cond, not, _&&_}
 use mathlib.Core.List.{List, [], _∷_, _++_}
 use Prim.Native.Nat.{ℕ, _+_, _-_, _*_, _%_}
@@ -51,9 +51,10 @@ paddedList l at format fraction n full = upTo (bitsOf l at format fraction) n ++
 abbrev pub kindOf : ℕ → ℕ → ℕ
 kindOf k count = cond (eqb k 9) 5 (cond (eqb k 10) (7 + count % 2) 6)
 
--- how many components it is told with: "the absent third being +0, as is a texture's absent second"
+-- how many components it is told with, all but a normal as many as with the count bit set:
+-- "the absent third being +0, as is a texture's absent second"
 abbrev pub fullOf : ℕ → ℕ → ℕ
-fullOf k count = cond (eqb k 9) 3 (cond (eqb k 10) (3 + 6 * (count % 2)) 2)
+fullOf k count = cond (eqb k 10) (componentsOf k count) (componentsOf k 1)
 
 -- its kind and components
 unfoldable pub componentList : List ℕ → ℕ → ℕ → ℕ → ℕ → ℕ → List ℕ

@@ -26,6 +26,7 @@ pub enum Attribute {
     Position(Triple),
     Texture(f32, f32),
     Normal(Triple),
+    // A normal of nine components.
     Frame(Triple, Triple, Triple),
 }
 

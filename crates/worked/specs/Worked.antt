@@ -1,6 +1,7 @@
 -- "Worked numbers": the starred ones as one table. One computed test compares what the definitions give with what document 01 says.
--- A row that a later crate brings is added to `rows`, and the definitions that it opens to the line under `worked`.
+-- A further row is added to `rows`, and the definitions that it opens to the lines under `worked`.
 use mathlib.Core.Path.{_≡_, refl, ap, _∙_}
+use mathlib.Core.Bool.{cond}
 use mathlib.Core.List.{List, [], _∷_}
 use Prim.Native.Nat.{ℕ, _+_, _*_, _^_}
 use lib.ListN.{getD, set, replicate}
@@ -11,13 +12,16 @@ use Rattle.component.specs.Component.{componentOf}
 use Rattle.layout.specs.declared.Descriptor.{Descriptor}
 use Rattle.layout.specs.Fields.{bitsAt, modes, counts, formats, shifts, modeOf, countOf, formatOf, fractionBits, fractionOf, indicesOf}
 use Rattle.layout.specs.Sizes.{directOf, sizeOf, offsetOf, unknownAt, anyUnknown}
-use Rattle.layout.specs.Answers.{refusalOf, lengthOf}
+use Rattle.layout.specs.Answers.{refusalOf, acceptedOf, lengthOf}
 use Rattle.vertex.specs.Attributes.{rawAt, componentAt, paddedList, componentList, directList, attributeList}
 use Rattle.vertex.specs.Answers.{refusalAt, decodingOf}
-use Rattle.effect.specs.Effect.{masked, maskPlace, storedBp, loadedBp}
+use Rattle.effect.specs.Effect.{masked, storedBp, loadedBp}
 use Rattle.writer.specs.Write.{headOf, wordsOf, wordBytes, commandBytes}
 use Rattle.patch.specs.Patch.{Patch, patchOf, bpCount, mergedOf}
 use Rattle.patch.specs.Commands.{commandsAt, commandsFrom, commandsOf, bytesOfCommands, patchBytes}
+use Rattle.fifo.specs.declared.Fifo.{Fifo}
+use Rattle.fifo.specs.Window.{sizeLimit, validBy, countOf as countIn}
+use Rattle.fifo.specs.Answers.{countAnswer}
 
 -- VCD groups 0 and 1, VAT groups 0, 1 and 2
 abbrev words : ℕ → ℕ → ℕ → ℕ → ℕ → Descriptor
@@ -33,14 +37,27 @@ largest =
     words 0xABFF 0x5555 (9 + 9 * 2 ^ 9 + 11 * 2 ^ 13 + 11 * 2 ^ 17 + 9 * 2 ^ 21) (9 + 9 * 2 ^ 9 + 9 * 2 ^ 18 + 9 * 2 ^ 27)
     (9 * 2 ^ 5 + 9 * 2 ^ 14 + 9 * 2 ^ 23)
 
--- the first component, by its bits, of a vertex that is a direct position of two components alone: of the format, the shift, bit 30 and
--- the bytes
+-- "normal of 16-bit indices": its bytes in a layout that is not refused, position by an index of 8 bits
+abbrev normal : ℕ → ℕ
+normal vat = cond (acceptedOf (named 0x1C00 vat)) (sizeOf (named 0x1C00 vat) 10) 0
+
+-- the first component, by its bits, of a vertex that is a direct position of two components alone:
+-- of the format, the shift, bit 30 and the bytes
 abbrev first : ℕ → ℕ → ℕ → List ℕ → ℕ
 first format shift bit30 bytes = getD (decodingOf (named 0x200 (2 * format + 16 * shift + bit30 * 2 ^ 30)) 9 bytes) 2 0
 
 -- BP registers that are zero but for one
 abbrev only : ℕ → ℕ → List ℕ
 only r n = set (replicate bpCount 0) r n
+
+-- "Start 1000, end 1100, read 10FE, write 1003 (hex)"
+abbrev wrapped : Fifo
+wrapped =
+    record { window = record { start = 0x1000; end = 0x1100; high = 0; low = 0; write = 0x1003; read = 0x10FE }; control = 0 }
+
+-- the BP registers with a number in 41, a mask in FE and 0 in the others
+abbrev holding : ℕ → ℕ → List ℕ
+holding n mask = set (set (replicate 256 0) 0x41 n) 0xFE mask
 
 -- a row: what a definition gives, and what document 01 says
 pub data Row : Type 0 where
@@ -49,15 +66,16 @@ pub data Row : Type 0 where
 -- the table, in document 01's order
 unfoldable pub rows : List Row
 rows =
-    row (lengthOf (named 0x200 9)) 12
+    row (getD (countAnswer wrapped) 1 0) 5
+    ∷ row (lengthOf (named 0x200 9)) 12
     ∷ row (lengthOf (named 0x2200 0x14009)) 16
     ∷ row (lengthOf largest) 129
     ∷ row (lengthOf (named 0x400 0)) 1
-    ∷ row (sizeOf (named 0x1800 0x80000200) 10) 6
-    ∷ row (sizeOf (named 0x1800 0x80000000) 10) 2
-    ∷ row (sizeOf (named 0x1800 0x200) 10) 2
-    ∷ row (getD (loadedBp (loadedBp (only maskPlace 0xFFFFFF) maskPlace 0x0000F0) maskPlace 0x00003C) maskPlace 0) 0x000030
-    ∷ row (masked 0x123450 0x00000F 0x0000A5) 0x123455
+    ∷ row (normal 0x80000200) 6
+    ∷ row (normal 0x80000000) 2
+    ∷ row (normal 0x200) 2
+    ∷ row (getD (loadedBp (loadedBp (holding 0 0xFFFFFF) 0xFE 0xF0) 0xFE 0x3C) 0xFE 0) 0x30
+    ∷ row (getD (loadedBp (holding 0x123450 0xF) 0x41 0xA5) 0x41 0) 0x123455
     ∷ row (first 1 6 1 (0x80 ∷ 0 ∷ [])) 0xC0000000
     ∷ row (first 2 16 0 (0xFF ∷ 0xFF ∷ 0 ∷ 0 ∷ [])) 0x3F7FFF00
     ∷ row (first 3 31 0 (0xFF ∷ 0xFF ∷ 0 ∷ 0 ∷ [])) 0xB0000000
@@ -77,7 +95,7 @@ pub worked : given rows ≡ said rows
 unfolding rows given said bitsAt modes counts formats shifts modeOf countOf formatOf fractionBits fractionOf indicesOf
     directOf sizeOf offsetOf unknownAt anyUnknown refusalOf lengthOf
     refusalAt attributeList directList componentList paddedList componentAt rawAt bigEndian componentOf upTo round toBits
-    masked storedBp loadedBp
+    sizeLimit validBy countIn countAnswer masked storedBp loadedBp
 worked = refl
 
 -- ---- the two patches of "Sheets and the writer"

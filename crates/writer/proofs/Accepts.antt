@@ -1,6 +1,6 @@
 -- A command that was read is one that the writer takes, and its bytes come back.
-use mathlib.Core.Path.{_≡_, refl, sym, ap, _∙_, subst}
-use mathlib.Core.Bool.{Bool, true, false, cond, not, _&&_, _||_}
+use mathlib.Core.Path.{_≡_, refl, sym, _∙_, subst}
+use mathlib.Core.Bool.{Bool, true, false, _||_}
 use mathlib.Core.Logic.{_⊎_, inl, inr}
 use mathlib.Core.List.{List, [], _∷_}
 use Prim.Native.Nat.{ℕ, zero, suc, _+_, _*_, _/_, _%_, _^_, _<_, _≤_}
@@ -14,24 +14,20 @@ use Rattle.octets.specs.BigEndian.{bigEndian}
 use Rattle.octets.proofs.Number.{Octets, big-lt, octets-take}
 use Rattle.layout.specs.Answers.{refusalOf}
 use Rattle.command.specs.declared.Draw.the-variants.{Closed}
-use Rattle.command.specs.Command.{Found, unit, waiting, refused, loadCp, loadXf, loadIndexed, callList, loadBp, drawHead}
+use Rattle.command.specs.Command.{Found, unit, waiting, refused, loadXf}
 use Rattle.command.specs.Places.{cpAccepted}
-use Rattle.command.specs.Look.{xfCount, whole, lookCp, xfWords, xfAddress, lookXf, indexedArray, lookIndexed, lookCall, lookBp, descriptorOf}
-use Rattle.command.specs.Look.{unlessRefused, lookHead, isIndexed, isDraw, byOpcode, lookOf}
-use Rattle.command.proofs.Bounds.{Fair, look-fair}
+use Rattle.command.specs.Look.{xfCount, whole, lookCp, xfWords, xfAddress, lookXf, indexedArray, lookIndexed, lookCall, lookBp}
+use Rattle.command.specs.Look.{descriptorOf, unlessRefused, lookHead, isIndexed, isDraw, byOpcode, lookOf}
+use Rattle.command.specs.Bounds.{Fair}
+use Rattle.command.proofs.Bounds.{look-fair}
 use Rattle.command.proofs.Prefix.{look-alone}
 use Rattle.effect.proofs.Lengths.{length-loaded}
 use Rattle.effect.specs.Effect.{loadedXf, xfAfter}
-use Rattle.writer.specs.Write.{headOf, wordsOf, commandBytes, unwritable, unaddressed, pastEnd}
-use Rattle.writer.specs.Again.{lowered, heldWords}
-use Rattle.writer.proofs.Again.{indexed-op, plain-again, bp-again, cp-again, call-again, indexed-again, head-again, xf-again}
-
--- the writer takes the command with the words that the memory holds, and writes the unit's bytes
-pub record Rewrites (u xf c : List ℕ) : Type 0 where
-  pub writable : unwritable c (length (heldWords c u xf)) ≡ false
-  pub addressed : unaddressed c ≡ false
-  pub within : pastEnd c ≡ false
-  pub bytes : commandBytes c (heldWords c u xf) ≡ lowered c u
+use Rattle.writer.specs.Write.{headOf, wordsOf, unwritable, unaddressed, pastEnd}
+use Rattle.writer.specs.Again.{heldWords}
+use Rattle.writer.proofs.Again.{indexed-op, plain-again, bp-again, cp-again, call-again, indexed-again}
+use Rattle.writer.proofs.Again.{head-again, xf-again}
+pub use Rattle.writer.specs.Again.{Rewrites}
 
 -- of an answer, where it is a unit of all the bytes
 abbrev Again : List ℕ → List ℕ → Found → Type 0
@@ -39,7 +35,8 @@ Again u xf (unit c m l) = l ≡ length u → Rewrites u xf c
 Again u xf (waiting k) = Unit {0}
 Again u xf (refused r) = Unit {0}
 
-again-whole : (u xf : List ℕ) (n length' : ℕ) (c : List ℕ) (m : ℕ) → (length' ≡ length u → Rewrites u xf c) → Again u xf (whole n length' c m)
+again-whole : (u xf : List ℕ) (n length' : ℕ) (c : List ℕ) (m : ℕ) → (length' ≡ length u → Rewrites u xf c)
+    → Again u xf (whole n length' c m)
 unfolding whole
 again-whole u xf n length' c m f = cond-both (Again u xf) (ltb n length') (λ _. tt) (λ _. f)
 
@@ -75,13 +72,19 @@ module _ (u xf : List ℕ) (o : Octets u) (size : length xf ≡ xfCount) (n : �
 
   of-call : getD u 0 0 ≡ 0x40 → Again u xf (lookCall u n)
   unfolding lookCall unwritable unaddressed pastEnd
-  of-call e = again-whole u xf n 9 _ 0 (λ l. record { writable = refl; addressed = refl; within = refl; bytes = call-again u xf o (sym l) e })
+  of-call e =
+      again-whole u xf n 9 _ 0 (λ l. record { writable = refl; addressed = refl; within = refl; bytes = call-again u xf o (sym l) e })
 
   of-bp : getD u 0 0 ≡ 0x61 → Again u xf (lookBp u n)
   unfolding lookBp unwritable unaddressed pastEnd
   of-bp e =
       again-whole u xf n 5 _ 0
-      (λ l. record { writable = lt-leb (2 ^ 24) (bigEndian u 2 3) (big-lt u 2 o 3); addressed = refl; within = refl; bytes = bp-again u xf o (sym l) e })
+      (λ l. record {
+        writable = lt-leb (2 ^ 24) (bigEndian u 2 3) (big-lt u 2 o 3);
+        addressed = refl;
+        within = refl;
+        bytes = bp-again u xf o (sym l) e;
+      })
 
   of-head : (op : ℕ) → getD u 0 0 ≡ op → isDraw op ≡ true → Again u xf (lookHead op u n cp)
   unfolding lookHead unwritable unaddressed pastEnd

@@ -1,21 +1,19 @@
 -- Read and written again: the bytes of a unit come back.
-use mathlib.Core.Path.{_≡_, refl, sym, ap, _∙_, subst}
-use mathlib.Core.Bool.{Bool, true, false, cond, not, _&&_, _||_}
+use mathlib.Core.Path.{_≡_, refl, sym, ap, _∙_}
+use mathlib.Core.Bool.{false, _&&_}
 use mathlib.Core.Logic.{_⊎_, inl, inr}
-use mathlib.Core.List.{List, [], _∷_, _++_, append-assoc, append-nil}
+use mathlib.Core.List.{List, [], _∷_, _++_, append-nil}
 use Prim.Native.Nat.{ℕ, zero, suc, _+_, _-_, _*_, _/_, _%_, _^_, _<_, _≤_}
-use native.Mathlib.Nat.{add-zero}
-use native.Mathlib.Numerals.{add-one}
 use native.Mathlib.Omega.{arith}
-use lib.Dec.{leb, ltb, eqb, lit<}
-use lib.ListN.{length, getD, set, take, drop, length-append, length-drop, length-set, take-append-drop}
-use borrow.Author.Tests.{le-leb, eqb-true, leb-true, ltb-true, ltb-false}
-use lib.Seq.{take-take, take-all, drop-cons, take-add, drop-drop, drop-set-add, take-suc-set, length-take-le}
+use lib.Dec.{leb, eqb}
+use lib.ListN.{length, getD, set, take, drop, length-drop, take-append-drop}
+use borrow.Author.Tests.{le-leb}
+use lib.Seq.{take-take, take-all, drop-cons, take-add, drop-drop, drop-set-add, take-suc-set}
 use Rattle.octets.specs.BigEndian.{bigEndian, bytesOf}
 use Rattle.octets.proofs.Number.{Octets, big-lt, two-bytes}
-use Rattle.octets.proofs.Written.{length-bytes, write-back}
+use Rattle.octets.proofs.Written.{write-back}
 use Rattle.command.specs.Command.{loadCp, loadXf, loadIndexed, callList, loadBp, drawHead}
-use Rattle.command.specs.Look.{xfCount, xfWords, xfAddress, indexedArray, isIndexed, isDraw}
+use Rattle.command.specs.Look.{xfWords, xfAddress, indexedArray}
 use Rattle.effect.specs.Effect.{storedXf, loadedXf, xfAfter}
 use Rattle.effect.proofs.Lengths.{length-stored}
 use Rattle.writer.specs.Write.{lengthField, headOf, wordsOf, wordBytes, commandBytes}
@@ -80,7 +78,8 @@ module _ (u xf : List ℕ) (o : Octets u) where
       ∙ three u 1 1 n l
 
   -- an opcode and two numbers
-  pair-again : (op n k : ℕ) → length u ≡ 1 + n + k → getD u 0 0 ≡ op → op ∷ (bytesOf n (bigEndian u 1 n) ++ bytesOf k (bigEndian u (1 + n) k)) ≡ u
+  pair-again : (op n k : ℕ) → length u ≡ 1 + n + k → getD u 0 0 ≡ op
+      → op ∷ (bytesOf n (bigEndian u 1 n) ++ bytesOf k (bigEndian u (1 + n) k)) ≡ u
   pair-again op n k l e =
       ap (λ (x : List ℕ). op ∷ (x ++ bytesOf k (bigEndian u (1 + n) k))) (write-back u 1 n o (omega arith))
       ∙ ap (λ (x : List ℕ). op ∷ (take n (drop 1 u) ++ x)) (write-back u (1 + n) k o (omega arith))
@@ -118,7 +117,8 @@ module _ (u xf : List ℕ) (o : Octets u) where
       ∙ ap (λ (x : ℕ). op ∷ (bytesOf 2 (bigEndian u 1 2) ++ bytesOf 2 x)) w
       ∙ pair-again op 2 2 l e
 
-  pub head-again : (op : ℕ) → length u ≡ 3 → getD u 0 0 ≡ op → 0x80 ≤ op → op < 0xC0 → Back (drawHead (op / 8 % 8) (op % 8) (bigEndian u 1 2))
+  pub head-again : (op : ℕ) → length u ≡ 3 → getD u 0 0 ≡ op → 0x80 ≤ op → op < 0xC0
+      → Back (drawHead (op / 8 % 8) (op % 8) (bigEndian u 1 2))
   unfolding headOf wordsOf lowered
   head-again op l e lo hi =
       let k : 0x80 + 8 * (op / 8 % 8 % 8) + op % 8 % 8 ≡ op = omega arith in
@@ -137,7 +137,8 @@ module _ (u xf : List ℕ) (o : Octets u) where
   unfolding heldWords wordsOf
   held-many w a k = take-take w w (drop a (xfAfter (loadXf w a) u xf)) (omega arith)
 
-  pub xf-again : (w a : ℕ) → length u ≡ 5 + 4 * w → getD u 0 0 ≡ 0x10 → w ≡ xfWords u → a ≡ xfAddress u → a + w ≤ length xf → Back (loadXf w a)
+  pub xf-again : (w a : ℕ) → length u ≡ 5 + 4 * w → getD u 0 0 ≡ 0x10 → w ≡ xfWords u → a ≡ xfAddress u → a + w ≤ length xf
+      → Back (loadXf w a)
   unfolding commandBytes headOf wordsOf lowered xfWords xfAddress bytesOf
   xf-again w a l e p q k =
       let high : getD u 1 0 < 256 = o 1 in

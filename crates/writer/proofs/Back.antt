@@ -1,8 +1,8 @@
 -- Written and looked at: any command that the writer accepts comes back, a draw head unless 9 or 10.
-use mathlib.Core.Path.{_≡_, refl, sym, ap, _∙_, subst}
-use mathlib.Core.Bool.{Bool, false≢true, true, false, not, _&&_, _||_}
-use mathlib.Core.List.{List, [], _∷_, _++_, append-assoc, append-nil}
-use Prim.Native.Nat.{ℕ, suc, _+_, _*_, _^_, _<_, _≤_}
+use mathlib.Core.Path.{_≡_, refl, sym, ap, _∙_}
+use mathlib.Core.Bool.{false≢true, true, false, _&&_}
+use mathlib.Core.List.{List, _∷_, _++_}
+use Prim.Native.Nat.{ℕ, suc, _+_, _*_, _^_, _≤_}
 use native.Mathlib.Omega.{arith}
 use lib.Dec.{leb, ltb, eqb}
 use lib.ListN.{length, take, length-append}
@@ -12,25 +12,21 @@ use Rattle.laws.proofs.Cases.{and-left, and-right, or-left, or-right}
 use Rattle.octets.specs.BigEndian.{bytesOf}
 use Rattle.layout.specs.Answers.{refusalOf}
 use Rattle.command.specs.declared.Command.{Command}
-use Rattle.command.specs.declared.Command.the-variants.{NoOperation, InvalidateCache, Metrics, LoadCp, LoadXf, LoadIndexed, CallList, LoadBp, DrawHead, Vertex}
-use Rattle.command.specs.declared.Draw.the-variants.{Closed}
+use Rattle.command.specs.declared.Command.the-variants.{NoOperation, InvalidateCache, Metrics, LoadCp, LoadXf, LoadIndexed}
+use Rattle.command.specs.declared.Command.the-variants.{CallList, LoadBp, DrawHead, Vertex}
 use Rattle.command.specs.Command.{unit, kindOf, fieldOf, numbersOf}
 use Rattle.command.specs.Places.{cpAccepted}
-use Rattle.command.specs.Look.{xfCount, descriptorOf, byOpcode, lookOf}
+use Rattle.command.specs.Look.{xfCount, descriptorOf, byOpcode}
 use Rattle.writer.specs.Write.{headOf, wordsOf, wordBytes, commandBytes, unwritable, unaddressed, pastEnd}
 use Rattle.writer.specs.Widths.{Typed, reported}
+pub use Rattle.writer.specs.Back.{LooksBack}
 use Rattle.writer.proofs.Words.{length-words}
 use Rattle.writer.proofs.RoundTrip.{there, opened, cp-back, xf-back, indexed-back, call-back, bp-back, head-back}
 
--- a look at what is written for a command, with anything after it
-abbrev pub LooksBack : Command → List ℕ → List ℕ → List ℕ → Type 0
-LooksBack command words rest cp =
-    lookOf (commandBytes (numbersOf command) words ++ rest) (length (commandBytes (numbersOf command) words ++ rest)) cp Closed
-    ≡ unit (numbersOf command) (reported (numbersOf command) cp) (length (commandBytes (numbersOf command) words))
-
 module _ (words rest cp : List ℕ) where
   pub looks-back : (command : Command) → Typed command
-      → unwritable (numbersOf command) (length words) ≡ false → unaddressed (numbersOf command) ≡ false → pastEnd (numbersOf command) ≡ false
+      → unwritable (numbersOf command) (length words) ≡ false → unaddressed (numbersOf command) ≡ false
+      → pastEnd (numbersOf command) ≡ false
       → (kindOf (numbersOf command) ≡ 0x80 → refusalOf (descriptorOf cp (fieldOf (numbersOf command) 2)) ≡ 0)
       → LooksBack command words rest cp
   unfolding commandBytes headOf wordsOf wordBytes unwritable unaddressed pastEnd reported byOpcode bytesOf
@@ -42,7 +38,8 @@ module _ (words rest cp : List ℕ) where
   looks-back (LoadBp register n) t w a p d = bp-back rest cp register n (leb-false (2 ^ 24) n w)
   looks-back (DrawHead primitive format count) t w a p d =
       head-back rest cp primitive format count
-      (leb-false 8 primitive (or-left (leb 8 primitive) (leb 8 format) w)) (leb-false 8 format (or-right (leb 8 primitive) (leb 8 format) w)) (t .1 .1) (d refl)
+      (leb-false 8 primitive (or-left (leb 8 primitive) (leb 8 format) w))
+      (leb-false 8 format (or-right (leb 8 primitive) (leb 8 format) w)) (t .1 .1) (d refl)
   looks-back (LoadIndexed array index w address) t u a p d =
       let all = not-false ((leb 12 array && leb array 15) && ((leb 1 w && leb w 16) && ltb address 4096)) u in
       let r = and-left (leb 12 array && leb array 15) ((leb 1 w && leb w 16) && ltb address 4096) all in
@@ -63,7 +60,8 @@ module _ (words rest cp : List ℕ) where
       let size : 5 + 4 * w ≡ suc (suc (suc (suc (suc (length ws))))) = omega arith in
       let long : 4 * w ≤ length (ws ++ rest) = omega (arith, length-append ws rest) in
       xf-back (ws ++ rest) cp w address
-      (leb-true 1 w (and-left (leb 1 w) (leb w 16 && eqb w (length words)) all)) (leb-true w 16 (and-left (leb w 16) (eqb w (length words)) m))
+      (leb-true 1 w (and-left (leb 1 w) (leb w 16 && eqb w (length words)) all))
+      (leb-true w 16 (and-left (leb w 16) (eqb w (length words)) m))
       (t .1) (ltb-false xfCount (address + w) p) long
       ∙ ap (λ (x : ℕ). unit (numbersOf (LoadXf w address)) 0 x) size
   looks-back Vertex t w a p d = absurd (false≢true (sym w))

@@ -2,16 +2,17 @@
 use mathlib.Core.Path.{_≡_, refl}
 use mathlib.Core.Bool.{false}
 use mathlib.Core.List.{[], _∷_}
-use Prim.Native.Nat.{ℕ}
 use lib.Dec.{eqb}
 use types.Run.{OneOf, miss}
 use denote.Enum.Declared.{tagOf}
 use Rattle.command.proofs.Command as Commands
 use Rattle.command.specs.declared.Command.{Command}
-use Rattle.command.specs.declared.Command.the-variants.{NoOperation, InvalidateCache, Metrics, LoadCp, LoadXf, LoadIndexed, CallList, LoadBp, DrawHead, Vertex}
+use Rattle.command.specs.declared.Command.the-variants.{NoOperation, InvalidateCache, Metrics, LoadCp, LoadXf, LoadIndexed}
+use Rattle.command.specs.declared.Command.the-variants.{CallList, LoadBp, DrawHead, Vertex}
 use Rattle.command.specs.Command.{kindOf, numbersOf}
 
-pub no-cp : (c : Command) → OneOf (0 ∷ 1 ∷ 2 ∷ 4 ∷ 5 ∷ 6 ∷ 7 ∷ 8 ∷ 9 ∷ []) (tagOf Commands.the-type c) → eqb (kindOf (numbersOf c)) 0x08 ≡ false
+pub no-cp : (c : Command) → OneOf (0 ∷ 1 ∷ 2 ∷ 4 ∷ 5 ∷ 6 ∷ 7 ∷ 8 ∷ 9 ∷ []) (tagOf Commands.the-type c)
+    → eqb (kindOf (numbersOf c)) 0x08 ≡ false
 no-cp NoOperation h = refl
 no-cp InvalidateCache h = refl
 no-cp Metrics h = refl
@@ -23,7 +24,8 @@ no-cp (LoadBp r n) h = refl
 no-cp (DrawHead p f n) h = refl
 no-cp Vertex h = refl
 
-pub no-xf : (c : Command) → OneOf (0 ∷ 1 ∷ 2 ∷ 3 ∷ 5 ∷ 6 ∷ 7 ∷ 8 ∷ 9 ∷ []) (tagOf Commands.the-type c) → eqb (kindOf (numbersOf c)) 0x10 ≡ false
+pub no-xf : (c : Command) → OneOf (0 ∷ 1 ∷ 2 ∷ 3 ∷ 5 ∷ 6 ∷ 7 ∷ 8 ∷ 9 ∷ []) (tagOf Commands.the-type c)
+    → eqb (kindOf (numbersOf c)) 0x10 ≡ false
 no-xf NoOperation h = refl
 no-xf InvalidateCache h = refl
 no-xf Metrics h = refl

@@ -2,9 +2,9 @@
 use mathlib.Core.Path.{_≡_, refl, sym, ap, _∙_}
 use mathlib.Core.Bool.{Bool, true, false, cond, not, _&&_}
 use mathlib.Core.List.{List, [], _∷_, _++_, append-assoc}
-use Prim.Native.Nat.{ℕ, zero, suc, _+_, _*_, _<_, _≤_}
+use Prim.Native.Nat.{ℕ, _+_, _*_, _<_, _≤_}
 use native.Mathlib.Omega.{arith}
-use lib.Dec.{leb, ltb, eqb}
+use lib.Dec.{leb, eqb}
 use lib.ListN.{length, take, drop, length-append}
 use lib.Seq.{take-at, drop-append-add, drop-drop, length-take-le}
 use borrow.Author.Tests.{not-false, ne-eqb, eqb-true, lt-ltb, le-ltb}
@@ -15,7 +15,8 @@ use Rattle.refusal.specs.declared.Reason.the-variants.{UnwritableCommand, Unkno
 use Rattle.refusal.proofs.Positive.{number-some}
 use Rattle.command.specs.Command.{kindOf, fieldOf}
 use Rattle.writer.specs.declared.Written.the-variants.{Bytes, Refused}
-use Rattle.writer.specs.Write.{headOf, wordsOf, wordBytes, commandBytes, unwritable, unaddressed, pastEnd, refusalOf, placed, headThenWords, Writes}
+use Rattle.writer.specs.Write.{headOf, wordsOf, wordBytes, commandBytes, unwritable, unaddressed}
+use Rattle.writer.specs.Write.{pastEnd, refusalOf, placed, headThenWords, Writes}
 use Rattle.writer.proofs.Words.{length-words}
 
 -- a writable command is lent the words that it names
@@ -37,7 +38,8 @@ module _ (c words out : List ℕ) where
   -- a refusal leaves the output as it was
   refuses : (r : Reason) → refusalOf c words (length out) ≡ number r → Writes c words out (Refused r) out
   refuses r e =
-      let f : eqb (refusalOf c words (length out)) 0 ≡ false = ne-eqb (refusalOf c words (length out)) 0 (λ z. omega (arith, number-some r)) in
+      let f : eqb (refusalOf c words (length out)) 0 ≡ false =
+      ne-eqb (refusalOf c words (length out)) 0 (λ z. omega (arith, number-some r)) in
       record { answer-is = rw f (ap (λ (n : ℕ). n ∷ []) (sym e)); out-is = rw f }
 
   pub by-unwritable : unwritable c (length words) ≡ true → Writes c words out (Refused UnwritableCommand) out
@@ -48,7 +50,8 @@ module _ (c words out : List ℕ) where
   unfolding refusalOf
   by-address h a = refuses UnknownCpAddress (rw (h, a))
 
-  pub by-end : unwritable c (length words) ≡ false → unaddressed c ≡ false → pastEnd c ≡ true → Writes c words out (Refused XfLoadPastEnd) out
+  pub by-end : unwritable c (length words) ≡ false → unaddressed c ≡ false → pastEnd c ≡ true
+      → Writes c words out (Refused XfLoadPastEnd) out
   unfolding refusalOf
   by-end h a p = refuses XfLoadPastEnd (rw (h, a, p))
 
@@ -85,7 +88,8 @@ module _ (c words out : List ℕ) where
         → Writes c words out (Bytes (at + 4 * n)) out'
     by-writing at n out' e f h o =
         let z : refusalOf c words (length out) ≡ 0 = accepted (omega arith) in
-        let k : at + 4 * n ≡ length (commandBytes c words) = ap (λ (x : ℕ). at + 4 * x) f ∙ ap (λ (x : ℕ). x + 4 * wordsOf c) e ∙ sym size in
+        let k : at + 4 * n ≡ length (commandBytes c words) =
+        ap (λ (x : ℕ). at + 4 * x) f ∙ ap (λ (x : ℕ). x + 4 * wordsOf c) e ∙ sym size in
         let o' : out' ≡ placed (commandBytes c words) out =
         o ∙ ap (λ (x : ℕ). headThenWords (headOf c) at words x out) f ∙ written at e in
         record { answer-is = rw (z, k); out-is = rw z o' }

@@ -1,22 +1,22 @@
 -- "Stepping a written command gives it back", as far as the look: what is written for a command is looked at as that command.
-use mathlib.Core.Path.{_≡_, refl, sym, ap, _∙_, subst}
-use mathlib.Core.Bool.{Bool, true, false, cond, not, _&&_, _||_}
+use mathlib.Core.Path.{_≡_, refl, sym, ap, _∙_}
+use mathlib.Core.Bool.{true}
 use mathlib.Core.Logic.{_⊎_, inl, inr}
-use mathlib.Core.List.{List, [], _∷_, _++_, append-assoc}
+use mathlib.Core.List.{List, [], _∷_, _++_}
 use Prim.Native.Nat.{ℕ, zero, suc, _+_, _-_, _*_, _/_, _%_, _^_, _<_, _≤_}
 use native.Mathlib.Omega.{arith}
-use lib.Dec.{leb, ltb, eqb, lit<}
-use lib.ListN.{length, getD, take, length-append}
-use borrow.Author.Tests.{ne-eqb, le-ltb, eqb-true, leb-true, leb-false, ltb-true, ltb-false}
+use lib.ListN.{length, length-append}
+use borrow.Author.Tests.{le-ltb}
 use Rattle.octets.specs.BigEndian.{bigEndian, bytesOf}
 use Rattle.octets.proofs.Written.{length-bytes, read-back}
 use Rattle.layout.specs.Answers.{refusalOf}
 use Rattle.command.specs.declared.Draw.the-variants.{Closed}
-use Rattle.command.specs.Command.{Found, unit, kindOf, fieldOf, loadBp, loadCp, callList, drawHead, loadXf, loadIndexed}
+use Rattle.command.specs.Command.{unit, loadBp, loadCp, callList, drawHead, loadXf, loadIndexed}
 use Rattle.command.specs.Places.{cpAccepted}
-use Rattle.command.specs.Look.{xfCount, whole, lookCp, lookBp, lookCall, xfWords, xfAddress, lookXf, descriptorOf, unlessRefused, lookHead, lookIndexed, indexedArray, memoryOf, byOpcode, lookOf}
+use Rattle.command.specs.Look.{xfCount, whole, lookCp, lookBp, lookCall, xfWords, xfAddress, lookXf}
+use Rattle.command.specs.Look.{descriptorOf, lookHead, lookIndexed, indexedArray, memoryOf, byOpcode, lookOf}
 use Rattle.command.proofs.Opcodes.{at-opcode, at-indexed, at-head, Other}
-use Rattle.writer.specs.Write.{lengthField, headOf, wordsOf, wordBytes, commandBytes, unwritable, unaddressed, pastEnd}
+use Rattle.writer.specs.Write.{lengthField}
 
 -- a unit whose bytes are there
 pub there : (n length : ℕ) (c : List ℕ) (m : ℕ) → length ≤ n → whole n length c m ≡ unit c m length
@@ -29,21 +29,25 @@ opened op l cp = at-opcode (op ∷ l) (length (op ∷ l)) cp refl (λ e. omega a
 
 module _ (rest cp : List ℕ) where
   pub bp-back : (register n : ℕ) → n < 2 ^ 24
-      → lookOf (0x61 ∷ register ∷ (bytesOf 3 n ++ rest)) (length (0x61 ∷ register ∷ (bytesOf 3 n ++ rest))) cp Closed ≡ unit (loadBp register n) 0 5
+      → lookOf (0x61 ∷ register ∷ (bytesOf 3 n ++ rest)) (length (0x61 ∷ register ∷ (bytesOf 3 n ++ rest))) cp Closed
+      ≡ unit (loadBp register n) 0 5
   unfolding byOpcode lookBp
   bp-back register n h =
       let l : List ℕ = register ∷ (bytesOf 3 n ++ rest) in
-      let k : length (bytesOf 3 n ++ rest) ≡ 3 + length rest = length-append (bytesOf 3 n) rest ∙ ap (λ (x : ℕ). x + length rest) (length-bytes 3 n) in
+      let k : length (bytesOf 3 n ++ rest) ≡ 3 + length rest =
+      length-append (bytesOf 3 n) rest ∙ ap (λ (x : ℕ). x + length rest) (length-bytes 3 n) in
       sym (opened 0x61 l cp)
       ∙ there (length (0x61 ∷ l)) 5 _ 0 (omega arith)
       ∙ ap (λ (x : ℕ). unit (loadBp register x) 0 5) (read-back (0x61 ∷ register ∷ []) 3 n rest h)
 
   pub cp-back : (address n : ℕ) → n < 2 ^ 32 → cpAccepted address ≡ true
-      → lookOf (0x08 ∷ address ∷ (bytesOf 4 n ++ rest)) (length (0x08 ∷ address ∷ (bytesOf 4 n ++ rest))) cp Closed ≡ unit (loadCp address n) 0 6
+      → lookOf (0x08 ∷ address ∷ (bytesOf 4 n ++ rest)) (length (0x08 ∷ address ∷ (bytesOf 4 n ++ rest))) cp Closed
+      ≡ unit (loadCp address n) 0 6
   unfolding byOpcode lookCp
   cp-back address n h ok =
       let l : List ℕ = address ∷ (bytesOf 4 n ++ rest) in
-      let k : length (bytesOf 4 n ++ rest) ≡ 4 + length rest = length-append (bytesOf 4 n) rest ∙ ap (λ (x : ℕ). x + length rest) (length-bytes 4 n) in
+      let k : length (bytesOf 4 n ++ rest) ≡ 4 + length rest =
+      length-append (bytesOf 4 n) rest ∙ ap (λ (x : ℕ). x + length rest) (length-bytes 4 n) in
       let two : 2 ≤ length (0x08 ∷ l) = omega arith in
       let six : 6 ≤ length (0x08 ∷ l) = omega arith in
       sym (opened 0x08 l cp)
@@ -51,7 +55,8 @@ module _ (rest cp : List ℕ) where
       (there (length (0x08 ∷ l)) 6 _ 0 six ∙ ap (λ (x : ℕ). unit (loadCp address x) 0 6) (read-back (0x08 ∷ address ∷ []) 4 n rest h))
 
   pub call-back : (address size : ℕ) → address < 2 ^ 32 → size < 2 ^ 32
-      → lookOf (0x40 ∷ (bytesOf 4 address ++ (bytesOf 4 size ++ rest))) (length (0x40 ∷ (bytesOf 4 address ++ (bytesOf 4 size ++ rest)))) cp Closed
+      → lookOf (0x40 ∷ (bytesOf 4 address ++ (bytesOf 4 size ++ rest)))
+      (length (0x40 ∷ (bytesOf 4 address ++ (bytesOf 4 size ++ rest)))) cp Closed
       ≡ unit (callList address size) 0 9
   unfolding byOpcode lookCall bytesOf
   call-back address size h k =
@@ -73,7 +78,8 @@ module _ (rest cp : List ℕ) where
   xf-back w address some most h fits long =
       let l : List ℕ = bytesOf 2 (lengthField w) ++ (bytesOf 2 address ++ rest) in
       let five : 5 ≤ length (0x10 ∷ l) = omega arith in
-      let a : bigEndian (0x10 ∷ l) 1 2 ≡ lengthField w = read-back (0x10 ∷ []) 2 (lengthField w) (bytesOf 2 address ++ rest) (omega arith) in
+      let a : bigEndian (0x10 ∷ l) 1 2 ≡ lengthField w =
+      read-back (0x10 ∷ []) 2 (lengthField w) (bytesOf 2 address ++ rest) (omega arith) in
       let b : bigEndian (0x10 ∷ l) 3 2 ≡ address = read-back (0x10 ∷ bytesOf 2 (lengthField w)) 2 address rest h in
       let k : bigEndian (0x10 ∷ l) 1 2 % 16 + 1 ≡ w = ap (λ (x : ℕ). x % 16 + 1) a ∙ words-back w some most in
       sym (opened 0x10 l cp)

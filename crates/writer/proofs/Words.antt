@@ -1,11 +1,11 @@
 -- Words stored one after the other are the words' bytes.
-use mathlib.Core.Path.{_≡_, refl, sym, ap, _∙_}
+use mathlib.Core.Path.{_≡_, refl, sym, _∙_}
 use mathlib.Core.List.{List, [], _∷_, _++_, append-assoc, append-nil}
-use Prim.Native.Nat.{ℕ, zero, suc, _+_, _*_, _/_, _%_, _<_, _≤_}
+use Prim.Native.Nat.{ℕ, suc, _+_, _*_, _/_, _%_, _<_, _≤_}
 use native.Mathlib.Numerals.{add-one}
 use native.Mathlib.Nat.{add-zero}
 use native.Mathlib.Omega.{arith}
-use lib.ListN.{length, getD, set, take, drop, length-append, length-take, length-drop, take-append-drop}
+use lib.ListN.{length, getD, set, take, drop, length-append, length-drop, take-append-drop}
 use lib.Seq.{take-suc, take-at, drop-append-add, drop-drop, sets, sets-eq, length-take-le}
 use Rattle.octets.specs.BigEndian.{bytesOf}
 use Rattle.octets.proofs.Written.{length-bytes}
@@ -52,7 +52,13 @@ module _ (out : List ℕ) (at : ℕ) (words : List ℕ) (i : ℕ) (there : i < l
   rest =
       let e : at + 4 * i + 4 ≡ length before + 4 = omega (arith, before-length) in
       let f : at + 4 * i + 4 ≡ at + 4 * (i + 1) = omega arith in
-      rw (e, ← append-assoc (take at out) (wordBytes (take i words)) (drop (at + 4 * i) out), drop-append-add before (drop (at + 4 * i) out) 4, drop-drop 4 (at + 4 * i) out, f)
+      rw (
+        e,
+        ← append-assoc (take at out) (wordBytes (take i words)) (drop (at + 4 * i) out),
+        drop-append-add before (drop (at + 4 * i) out) 4,
+        drop-drop 4 (at + 4 * i) out,
+        f,
+      )
 
   front : take (at + 4 * i) (state out at words i) ≡ before
   front =
@@ -62,7 +68,11 @@ module _ (out : List ℕ) (at : ℕ) (words : List ℕ) (i : ℕ) (there : i < l
   state-length : length (state out at words i) ≡ length out
   state-length =
       let a : length before ≡ at + 4 * i = before-length in
-      rw (← append-assoc (take at out) (wordBytes (take i words)) (drop (at + 4 * i) out), length-append before (drop (at + 4 * i) out), length-drop) (omega arith)
+      rw (
+        ← append-assoc (take at out) (wordBytes (take i words)) (drop (at + 4 * i) out),
+        length-append before (drop (at + 4 * i) out),
+        length-drop,
+      ) (omega arith)
 
   -- the four bytes of the next word
   pub state-next : sets (state out at words i) (at + 4 * i) (bytesOf 4 (getD words i 0)) ≡ state out at words (i + 1)
@@ -75,7 +85,8 @@ module _ (out : List ℕ) (at : ℕ) (words : List ℕ) (i : ℕ) (there : i < l
 
 -- a word's four bytes, as the code stores them
 pub four-stores : (l : List ℕ) (p w : ℕ)
-    → set (set (set (set l p (w / 256 / 256 / 256 % 256)) (p + 1) (w / 256 / 256 % 256)) (p + 2) (w / 256 % 256)) (p + 3) (w % 256) ≡ sets l p (bytesOf 4 w)
+    → set (set (set (set l p (w / 256 / 256 / 256 % 256)) (p + 1) (w / 256 / 256 % 256)) (p + 2) (w / 256 % 256)) (p + 3) (w % 256)
+    ≡ sets l p (bytesOf 4 w)
 unfolding bytesOf
 four-stores l p w =
     let a : p + 1 ≡ suc p = omega arith in

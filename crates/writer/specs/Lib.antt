@@ -2,3 +2,4 @@ pub mod Write
 pub mod Heads
 pub mod Widths
 pub mod Again
+pub mod Back

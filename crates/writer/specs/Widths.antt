@@ -1,10 +1,11 @@
--- "its fields in the widths above": what the types of a command's fields hold, and what a look reports of a command.
+-- What the types of a command's fields hold, and what a look reports of a command.
 use mathlib.Core.Bool.{cond}
 use mathlib.Core.List.{List}
 use Prim.Native.Nat.{ℕ, _^_, _<_}
 use lib.Dec.{eqb}
 use Rattle.command.specs.declared.Command.{Command}
-use Rattle.command.specs.declared.Command.the-variants.{NoOperation, InvalidateCache, Metrics, LoadCp, LoadXf, LoadIndexed, CallList, LoadBp, DrawHead, Vertex}
+use Rattle.command.specs.declared.Command.the-variants.{NoOperation, InvalidateCache, Metrics, LoadCp, LoadXf, LoadIndexed}
+use Rattle.command.specs.declared.Command.the-variants.{CallList, LoadBp, DrawHead, Vertex}
 use Rattle.command.specs.Command.{kindOf, fieldOf}
 use Rattle.command.specs.Look.{memoryOf}
 

@@ -42,13 +42,14 @@ unfoldable pub wordBytes : List ℕ → List ℕ
 wordBytes [] = []
 wordBytes (w ∷ ws) = bytesOf 4 w ++ wordBytes ws
 
--- "Its bytes are those written for it": of a command with its lent words
+-- the bytes of a command with its lent words
 unfoldable pub commandBytes : List ℕ → List ℕ → List ℕ
 commandBytes c words = headOf c ++ wordBytes (take (wordsOf c) words)
 
 -- ---- the refusals: 18, "then tests 7 and 8, then 16"
 
--- "command to write is a vertex or has a field out of range", or the lent words are not as many as an XF load names, 1 to 16
+-- "command to write is a vertex or has a field out of range":
+-- "its fields in the widths above, an XF load's words lent beside it, 1 to 16, as many as it names (else 18)"
 unfoldable pub unwritable : List ℕ → ℕ → Bool
 unwritable c lent =
     cond (eqb (kindOf c) 0x01) true
@@ -80,11 +81,6 @@ refusalOf c words room =
 abbrev pub placed : List ℕ → List ℕ → List ℕ
 placed bytes out = bytes ++ drop (length bytes) out
 
--- a head of `at` bytes copied to the front, then the first n words after it
-abbrev pub headThenWords : List ℕ → ℕ → List ℕ → ℕ → List ℕ → List ℕ
-headThenWords head at words n out =
-    take at (head ++ drop at out) ++ (wordBytes (take n words) ++ drop (at + 4 * n) (head ++ drop at out))
-
 -- the numbers of an answer: 0 and the bytes written, or the refusal's
 abbrev pub meaning : Written → List ℕ
 meaning (Bytes n) = 0 ∷ n ∷ []
@@ -96,3 +92,10 @@ pub record Writes (c words out : List ℕ) (r : Written) (out' : List ℕ) : Typ
       meaning r
       ≡ cond (eqb (refusalOf c words (length out)) 0) (0 ∷ length (commandBytes c words) ∷ []) (refusalOf c words (length out) ∷ [])
   pub out-is : out' ≡ cond (eqb (refusalOf c words (length out)) 0) (placed (commandBytes c words) out) out
+
+-- ---- for the code's own functions
+
+-- a head of `at` bytes copied to the front, then the first n words after it
+abbrev pub headThenWords : List ℕ → ℕ → List ℕ → ℕ → List ℕ → List ℕ
+headThenWords head at words n out =
+    take at (head ++ drop at out) ++ (wordBytes (take n words) ++ drop (at + 4 * n) (head ++ drop at out))

@@ -30,7 +30,8 @@ fn words_named(command: Command) -> usize
 // The first n words, from a place of the output on.
 fn put_words(out: &mut [u8], at: usize, words: &[u32], n: usize)
     requires { ⌜ (n ≤ length (now words)) × ((at + 4 * n ≤ length (now out)) × (n ≤ 255)) ⌝ }
-    ensures { λ _. ⌜ now (out .exit) ≡ take at (now (out .entry)) ++ (wordBytes (take n (now (words .entry))) ++ drop (at + 4 * n) (now (out .entry))) ⌝ }
+    ensures { λ _. ⌜ now (out .exit)
+        ≡ take at (now (out .entry)) ++ (wordBytes (take n (now (words .entry))) ++ drop (at + 4 * n) (now (out .entry))) ⌝ }
 {
     let mut i: usize = 0;
     while i < n {

@@ -91,7 +91,9 @@ returns-9 c = c .look-bp .ensures ∙ at-opcode _ _ _ (c .before .match .keys8) 
 returns-10 : tie.Need-returns-10
 returns-10 c =
     let rest = c .before .before .before in
-    c .look-head .ensures ∙ at-head _ _ _ (other rest) (c .before .before .if2 .left) (c .before .if3 .taken) ∙ at-opcode _ _ _ refl (rest .before .if1 .left)
+    c .look-head .ensures
+    ∙ at-head _ _ _ (other rest) (c .before .before .if2 .left) (c .before .if3 .taken)
+    ∙ at-opcode _ _ _ refl (rest .before .if1 .left)
 
 returns-11 : tie.Need-returns-11
 returns-11 c = at-low _ _ _ (other (c .before)) (c .if2 .taken) ∙ at-opcode _ _ _ refl (c .before .before .if1 .left)

@@ -1,6 +1,5 @@
 -- `effect::counted_down` meets its contract: the definition goes by the same cases.
 use borrow.Author.Needs.{needs}
-use mathlib.Core.Path.{_∙_, ap}
 use Rattle.effect.proofs.counted_down.Statement.{statement}
 use Rattle.effect.proofs.counted_down.Tie as tie
 

@@ -1,6 +1,5 @@
 -- `effect::kept` meets its contract: both make the same tests.
 use borrow.Author.Tests.{lt-ltb, le-ltb}
-use borrow.Author.Needs.{needs}
 use Rattle.effect.specs.Effect.{keptOf}
 use Rattle.effect.proofs.kept.Statement.{statement}
 use Rattle.effect.proofs.kept.Tie as tie

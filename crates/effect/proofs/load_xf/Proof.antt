@@ -1,7 +1,5 @@
 -- `effect::load_xf` meets its contract: the tests are the definition's, and where both hold every word is stored.
 use borrow.Author.Needs.{needs}
-use mathlib.Core.Path.{_≡_, refl, sym, ap, _∙_}
-use mathlib.Core.Bool.{true, false}
 use native.Mathlib.Omega.{arith}
 use borrow.Author.Tests.{leb-true}
 use Prim.Native.Nat.{_+_, _*_}

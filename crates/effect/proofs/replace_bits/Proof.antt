@@ -1,6 +1,5 @@
 -- `effect::replace_bits` meets its contract: the definition is the code.
 use mathlib.Core.Path.{refl}
-use borrow.Author.Needs.{needs}
 use Rattle.effect.specs.Effect.{masked}
 use Rattle.effect.proofs.replace_bits.Statement.{statement}
 use Rattle.effect.proofs.replace_bits.Tie as tie

@@ -56,7 +56,9 @@ returns : tie.Need-returns Inv-loop μ-loop
 returns c =
     let lp = c .before .loop in
     let e : lp .i ≡ c .before .before .capped .result = omega arith in
-    lp .inv .1 ∙ ap (λ (k : ℕ). bigEndian (c .before .before .before .before .args .bytes .now) (c .before .before .before .before .args .at) k) (e ∙ c .before .before .capped .ensures .0)
+    lp .inv .1
+    ∙ ap (λ (k : ℕ). bigEndian (c .before .before .before .before .args .bytes .now) (c .before .before .before .before .args .at) k)
+    (e ∙ c .before .before .capped .ensures .0)
 
 pub read-spec : {M : Type 1} → statement M
 read-spec =

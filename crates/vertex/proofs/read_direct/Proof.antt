@@ -3,7 +3,7 @@ use mathlib.Core.Path.{_≡_, sym, ap, _∙_}
 use mathlib.Core.Bool.{false}
 use mathlib.Core.List.{List, [], _∷_}
 use Prim.Native.Nat.{ℕ}
-use Rattle.octets.specs.BigEndian.{bigEndian, least}
+use Rattle.octets.specs.BigEndian.{bigEndian, atMostFour}
 use Rattle.layout.specs.Sizes.{isColour}
 use Rattle.layout.proofs.Bounds.{colour-le}
 use Rattle.vertex.specs.declared.Triple.{Triple}
@@ -38,7 +38,7 @@ returns c =
     let a = at .before .before .before .args in
     direct-colour (a .vertex .now) (a .at) (a .k) (a .count) (a .format) (a .fraction) (c .read .result)
     (sym (at .before .is-colour .ensures) ∙ at .if1 .taken)
-    (c .read .ensures ∙ ap (λ (n : ℕ). bigEndian (a .vertex .now) (a .at) (least n)) (c .before .colour-width .ensures))
+    (c .read .ensures ∙ ap (λ (n : ℕ). bigEndian (a .vertex .now) (a .at) (atMostFour n)) (c .before .colour-width .ensures))
     (colour-le (a .format))
 
 read-position-requires : tie.Need-read-position-requires

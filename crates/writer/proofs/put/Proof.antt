@@ -8,7 +8,6 @@ use lib.ListN.{length, take, drop}
 use lib.Seq.{length-take-le, take-length}
 use Prim.Native.Nat.{_+_, _*_}
 use Rattle.writer.specs.Write.{wordBytes}
-use Rattle.writer.specs.Write.{headThenWords}
 use Rattle.writer.proofs.put.Statement.{statement}
 use Rattle.writer.proofs.put.Tie as tie
 

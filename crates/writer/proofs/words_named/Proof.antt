@@ -1,6 +1,5 @@
 -- `writer::words_named` meets its contract: only an XF load names words.
 use borrow.Author.Needs.{needs}
-use native.Mathlib.Omega.{arith}
 use lib.Dec.{lit≤}
 use Rattle.writer.proofs.Others.{no-xf}
 use Rattle.writer.specs.Write.{wordsOf}

@@ -3,7 +3,7 @@ use borrow.Author.Needs.{needs}
 use mathlib.Core.Path.{_≡_, sym, ap, _∙_}
 use mathlib.Core.Bool.{false}
 use mathlib.Core.List.{List}
-use Prim.Native.Nat.{ℕ, _≤_}
+use Prim.Native.Nat.{ℕ}
 use native.Mathlib.Omega.{arith}
 use lib.ListN.{length}
 use Rattle.writer.proofs.Outcomes.{by-unwritable, by-address, by-end, by-room, by-writing, words-lent}
@@ -51,7 +51,8 @@ past-end-requires c κs = search needs
 returns-3 : tie.Need-returns-3
 returns-3 c =
     let b = c .before .before .before .before in
-    by-end _ _ _ (sym (b .before .unwritable .ensures) ∙ b .if1 .left) (sym (c .before .before .before .unaddressed .ensures) ∙ c .before .before .if2 .left)
+    by-end _ _ _ (sym (b .before .unwritable .ensures) ∙ b .if1 .left)
+    (sym (c .before .before .before .unaddressed .ensures) ∙ c .before .before .if2 .left)
     (sym (c .before .past-end .ensures) ∙ c .if3 .taken)
 
 head-requires : tie.Need-head-requires
@@ -96,7 +97,8 @@ returns-5 c =
     let at = h .head .result .length in
     by-writing (command-of e) (words-of e) (out-of e) (writable e) (addressed e) (within e) at (n .words-named .result) (p .put .last .0)
     (h .head .ensures .length-is) (n .words-named .ensures .0) (p .before .before .if4 .left)
-    (p .put .ensures ∙ ap (λ (x : List ℕ). headThenWords x at (words-of e) (n .words-named .result) (out-of e)) (h .head .ensures .bytes-are))
+    (p .put .ensures
+    ∙ ap (λ (x : List ℕ). headThenWords x at (words-of e) (n .words-named .result) (out-of e)) (h .head .ensures .bytes-are))
 
 pub write-spec : {M : Type 1} → statement M
 write-spec =

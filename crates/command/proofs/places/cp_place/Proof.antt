@@ -26,7 +26,13 @@ returns-3 : tie.Need-returns-3
 unfolding cpPlace
 returns-3 c =
     let b = c .before .before .before in
-    rw (c .vat-place .ensures, le-ltb _ _ (b .before .if1 .left), le-ltb _ _ (b .if2 .left), lt-ltb _ _ (c .before .before .if3 .taken), lt-ltb _ _ (c .before .if4 .taken))
+    rw (
+      c .vat-place .ensures,
+      le-ltb _ _ (b .before .if1 .left),
+      le-ltb _ _ (b .if2 .left),
+      lt-ltb _ _ (c .before .before .if3 .taken),
+      lt-ltb _ _ (c .before .if4 .taken),
+    )
 
 returns-4 : tie.Need-returns-4
 unfolding cpPlace
@@ -41,7 +47,13 @@ returns-5 : tie.Need-returns-5
 unfolding cpPlace
 returns-5 c =
     let b = c .before .before .before in
-    rw (c .base-place .ensures, le-ltb _ _ (b .before .if1 .left), le-ltb _ _ (b .if2 .left), le-ltb _ _ (c .before .before .if3 .left), lt-ltb _ _ (c .before .if5 .taken))
+    rw (
+      c .base-place .ensures,
+      le-ltb _ _ (b .before .if1 .left),
+      le-ltb _ _ (b .if2 .left),
+      le-ltb _ _ (c .before .before .if3 .left),
+      lt-ltb _ _ (c .before .if5 .taken),
+    )
 
 stride-place-requires : tie.Need-stride-place-requires
 stride-place-requires c κs = search needs
@@ -50,13 +62,26 @@ returns-6 : tie.Need-returns-6
 unfolding cpPlace
 returns-6 c =
     let b = c .before .before .before .before in
-    rw (c .stride-place .ensures, le-ltb _ _ (b .before .if1 .left), le-ltb _ _ (b .if2 .left), le-ltb _ _ (c .before .before .before .if3 .left), le-ltb _ _ (c .before .before .if5 .left), lt-ltb _ _ (c .before .if6 .taken))
+    rw (
+      c .stride-place .ensures,
+      le-ltb _ _ (b .before .if1 .left),
+      le-ltb _ _ (b .if2 .left),
+      le-ltb _ _ (c .before .before .before .if3 .left),
+      le-ltb _ _ (c .before .before .if5 .left),
+      lt-ltb _ _ (c .before .if6 .taken),
+    )
 
 returns-7 : tie.Need-returns-7
 unfolding cpPlace
 returns-7 c =
     let b = c .before .before .before in
-    rw (le-ltb _ _ (b .before .if1 .left), le-ltb _ _ (b .if2 .left), le-ltb _ _ (c .before .before .if3 .left), le-ltb _ _ (c .before .if5 .left), le-ltb _ _ (c .if6 .left))
+    rw (
+      le-ltb _ _ (b .before .if1 .left),
+      le-ltb _ _ (b .if2 .left),
+      le-ltb _ _ (c .before .before .if3 .left),
+      le-ltb _ _ (c .before .if5 .left),
+      le-ltb _ _ (c .if6 .left),
+    )
 
 pub cp-place-spec : {M : Type 1} → statement M
 cp-place-spec =

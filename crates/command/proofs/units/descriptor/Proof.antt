@@ -51,8 +51,7 @@ element-copy-out-t28 c = search needs
 
 returns : tie.Need-returns
 unfolding descriptorOf
-returns c =
-    rw (c .before .before .before .before .before .before .before .before .before .vcd-place .ensures, c .before .before .before .before .before .before .before .vcd-place2 .ensures, c .before .before .before .before .before .vat-place .ensures, c .before .before .before .vat-place2 .ensures, c .before .vat-place3 .ensures)
+returns c = cc
 
 pub descriptor-spec : {M : Type 1} → statement M
 descriptor-spec =

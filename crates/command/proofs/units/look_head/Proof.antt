@@ -1,4 +1,5 @@
--- `command::units::look_head` meets its contract: the layout's answer is the definition's refusal, and the count stands big-endian after the opcode.
+-- `command::units::look_head` meets its contract:
+-- the layout's answer is the definition's refusal, and the count stands big-endian after the opcode.
 use borrow.Author.Needs.{needs}
 use Rattle.command.proofs.Refusals.{unless-refused, unless-accepted}
 use Rattle.command.specs.Look.{lookHead}
@@ -35,7 +36,8 @@ returns : tie.Need-returns
 unfolding lookHead
 returns c =
     let laid = c .before .before .before in
-    rw (← laid .before .descriptor .ensures) (unless-refused (c .before .answer .given .0 .0) _ _ (rw (c .before .answer .given .1) at (laid .lay-out .ensures .answer-is)))
+    rw (← laid .before .descriptor .ensures)
+    (unless-refused (c .before .answer .given .0 .0) _ _ (rw (c .before .answer .given .1) at (laid .lay-out .ensures .answer-is)))
 
 returns-2 : tie.Need-returns-2
 unfolding lookHead

@@ -1,4 +1,5 @@
--- `command::units::look_indexed` meets its contract: its fields stand big-endian after the opcode, and the address is that of the array's element.
+-- `command::units::look_indexed` meets its contract:
+-- its fields stand big-endian after the opcode, and the address is that of the array's element.
 use borrow.Author.Needs.{needs}
 use Rattle.command.specs.Look.{lookIndexed}
 use Rattle.octets.proofs.Number.{two-bytes}
@@ -41,7 +42,13 @@ unit-requires c κs = search needs
 returns : tie.Need-returns
 unfolding lookIndexed
 returns c =
-    rw (two-bytes _ 1, two-bytes _ 3, ← c .before .before .before .half .ensures, ← c .before .before .half2 .ensures, ← c .before .memory .ensures) (c .unit .ensures)
+    rw (
+      two-bytes _ 1,
+      two-bytes _ 3,
+      ← c .before .before .before .half .ensures,
+      ← c .before .before .half2 .ensures,
+      ← c .before .memory .ensures,
+    ) (c .unit .ensures)
 
 pub look-indexed-spec : {M : Type 1} → statement M
 look-indexed-spec =

@@ -25,7 +25,8 @@ returns : tie.Need-returns
 unfolding lookVertex
 returns c =
     let laid = c .before .before .before in
-    rw (← laid .before .descriptor .ensures) (unless-refused (c .before .answer .given .0 .0) _ _ (rw (c .before .answer .given .1) at (laid .lay-out .ensures .answer-is)))
+    rw (← laid .before .descriptor .ensures)
+    (unless-refused (c .before .answer .given .0 .0) _ _ (rw (c .before .answer .given .1) at (laid .lay-out .ensures .answer-is)))
 
 returns-2 : tie.Need-returns-2
 unfolding lookVertex

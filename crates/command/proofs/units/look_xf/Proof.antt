@@ -1,8 +1,6 @@
--- `command::units::look_xf` meets its contract: code and definition make the same tests, on the words and the address as they stand big-endian.
+-- `command::units::look_xf` meets its contract:
+-- code and definition make the same tests, on the words and the address as they stand big-endian.
 use borrow.Author.Needs.{needs}
-use mathlib.Core.Path.{_≡_, sym, ap, _∙_}
-use Prim.Native.Nat.{_+_, _%_}
-use native.Mathlib.Omega.{arith}
 use borrow.Author.Tests.{lt-ltb, le-ltb}
 use Rattle.command.specs.Look.{lookXf, xfWords, xfAddress}
 use Rattle.octets.proofs.Number.{two-bytes}
@@ -50,7 +48,14 @@ returns-2 : tie.Need-returns-2
 unfolding lookXf xfWords xfAddress
 returns-2 c =
     let at-words = c .before .before in
-    rw (le-ltb _ _ (at-words .before .if1 .left), two-bytes _ 1, two-bytes _ 3, ← at-words .half .ensures, ← c .before .half2 .ensures, lt-ltb _ _ (c .if2 .taken))
+    rw (
+      le-ltb _ _ (at-words .before .if1 .left),
+      two-bytes _ 1,
+      two-bytes _ 3,
+      ← at-words .half .ensures,
+      ← c .before .half2 .ensures,
+      lt-ltb _ _ (c .if2 .taken),
+    )
 
 cast-t15 : tie.Need-cast-t15
 cast-t15 c = search needs
@@ -71,7 +76,14 @@ returns-3 : tie.Need-returns-3
 unfolding lookXf xfWords xfAddress
 returns-3 c =
     let at-words = c .before .before .before in
-    rw (le-ltb _ _ (at-words .before .if1 .left), two-bytes _ 1, two-bytes _ 3, ← at-words .half .ensures, ← c .before .before .half2 .ensures, le-ltb _ _ (c .before .if2 .left))
+    rw (
+      le-ltb _ _ (at-words .before .if1 .left),
+      two-bytes _ 1,
+      two-bytes _ 3,
+      ← at-words .half .ensures,
+      ← c .before .before .half2 .ensures,
+      le-ltb _ _ (c .before .if2 .left),
+    )
     (c .unit .ensures)
 
 pub look-xf-spec : {M : Type 1} → statement M

@@ -18,12 +18,7 @@ low-requires-3 c κs = search needs
 
 returns : tie.Need-returns
 unfolding headOf bytesOf
-returns c =
-    record {
-      bytes-are = rw (c .before .before .low .ensures, c .before .low2 .ensures, c .low3 .ensures);
-      length-is = refl;
-      most = lit≤ tt;
-    }
+returns c = record { bytes-are = cc; length-is = refl; most = lit≤ tt }
 
 pub head-bp-spec : {M : Type 1} → statement M
 head-bp-spec = tie.close (tie.spec low-requires low-requires-2 low-requires-3 returns)

@@ -33,12 +33,7 @@ low-requires-8 c κs = search needs
 
 returns : tie.Need-returns
 unfolding headOf bytesOf
-returns c =
-    record {
-      bytes-are = rw (c .before .before .before .before .before .before .before .low .ensures, c .before .before .before .before .before .before .low2 .ensures, c .before .before .before .before .before .low3 .ensures, c .before .before .before .before .low4 .ensures, c .before .before .before .low5 .ensures, c .before .before .low6 .ensures, c .before .low7 .ensures, c .low8 .ensures);
-      length-is = refl;
-      most = lit≤ tt;
-    }
+returns c = record { bytes-are = cc; length-is = refl; most = lit≤ tt }
 
 pub head-call-spec : {M : Type 1} → statement M
 head-call-spec =

@@ -24,12 +24,7 @@ low-requires-2 c κs = search needs
 
 returns : tie.Need-returns
 unfolding headOf bytesOf
-returns c =
-    record {
-      bytes-are = rw (c .before .low .ensures, c .low2 .ensures);
-      length-is = refl;
-      most = lit≤ tt;
-    }
+returns c = record { bytes-are = cc; length-is = refl; most = lit≤ tt }
 
 pub head-draw-spec : {M : Type 1} → statement M
 head-draw-spec = tie.close (tie.spec mul-op add-op add-op-2 low-requires low-requires-2 returns)

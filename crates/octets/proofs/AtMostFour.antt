@@ -5,10 +5,10 @@ use Prim.Native.Nat.{ℕ, _≤_}
 use native.Mathlib.Omega.{arith}
 use lib.Dec.{ltb}
 use borrow.Author.Tests.{ltb-false}
-use Rattle.octets.specs.BigEndian.{least}
+use Rattle.octets.specs.BigEndian.{atMostFour}
 
-pub least-is : (n : ℕ) → n ≤ 4 → least n ≡ n
-least-is n h = go (ltb n 4) refl
+pub at-most-four : (n : ℕ) → n ≤ 4 → atMostFour n ≡ n
+at-most-four n h = go (ltb n 4) refl
   where
     go : (b : Bool) → ltb n 4 ≡ b → cond b n 4 ≡ n
     go true e = refl
