@@ -5,3 +5,4 @@ pub mod Loads
 pub mod Writing
 pub mod Execution
 pub mod Stream
+pub mod Meanings

@@ -83,7 +83,8 @@ loop-again c =
     (omega arith, writing-skip (c .before .before .before .loop .inv .1) h (c .if1 .taken))
 
 put-requires : tie.Need-put-requires Inv-loop μ-loop
-put-requires c κs = (load-fits _ _ (second (c .before)) (named (c .before)), sound-of (c .before) .small (reg (c .before)) (in-range (c .before)))
+put-requires c κs =
+    let n = c .before in (load-fits _ _ (second n) (named n), sound-of n .small (reg n) (in-range n))
 
 cast-put : tie.Need-cast-put Inv-loop μ-loop
 cast-put c = search needs
