@@ -98,7 +98,9 @@ shared-slice-read-put c = omega (arith, in-range (at-named c), sound-of (at-name
 put-requires-2 : tie.Need-put-requires-2 Inv-loop μ-loop
 put-requires-2 c κs =
     let n = at-named c in
-    (load-fits _ _ (bytesFrom (reg n + 1) (of n)) (once c), number-small (of n) (sound-of n) (reg n) (in-range n))
+    let fits = load-fits _ _ (bytesFrom (reg n + 1) (of n)) (once c) in
+    let next = c .before .before .before .before .put .ensures .next-is in
+    (omega (arith, fits, next), number-small (of n) (sound-of n) (reg n) (in-range n))
 
 add-r-2 : tie.Need-add-r-2 Inv-loop μ-loop
 add-r-2 c = search needs
