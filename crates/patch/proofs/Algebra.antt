@@ -48,7 +48,8 @@ applied-size bp p = length-upTo _ bpCount
 -- ---- bit by bit
 
 -- "A merge names the bits that either sheet names"
-pub merged-names : (r : ℕ) → r < bpCount → (a b : Patch) (k : ℕ) → bit k (maskAt (mergedOf a b) r) ≡ (bit k (maskAt a r) || bit k (maskAt b r))
+pub merged-names : (r : ℕ) → r < bpCount → (a b : Patch) (k : ℕ)
+    → bit k (maskAt (mergedOf a b) r) ≡ (bit k (maskAt a r) || bit k (maskAt b r))
 merged-names r l a b k = ap (bit k) (merged-mask r l a b) ∙ bit-or k (maskAt a r) (maskAt b r)
 
 -- "each is B's where B names it, else A's"
@@ -57,7 +58,8 @@ pub merged-bit : (r : ℕ) → r < bpCount → (a b : Patch) (k : ℕ) → k < 2
 merged-bit r l a b k h = ap (bit k) (merged-number r l a b) ∙ masked-bit k (numberAt a r) (maskAt b r) (numberAt b r) h
 
 -- "and all other number bits are 0", as in every accepted patch
-pub unnamed-zero : (p : Patch) → IsAccepted p → (r : ℕ) → r < bpCount → (k : ℕ) → bit k (maskAt p r) ≡ false → bit k (numberAt p r) ≡ false
+pub unnamed-zero : (p : Patch) → IsAccepted p → (r : ℕ) → r < bpCount → (k : ℕ) → bit k (maskAt p r) ≡ false
+    → bit k (numberAt p r) ≡ false
 unnamed-zero p ok r l k e =
     ap (bit k) (sym (sound p ok .inside r l)) ∙ bit-and k (numberAt p r) (maskAt p r)
     ∙ ap (λ (x : Bool). bit k (numberAt p r) && x) e ∙ none (bit k (numberAt p r))

@@ -43,7 +43,8 @@ module _ (c : List ℕ) (l : IsLoad c) where
   keeps-xf bytes xf = ap (λ (x : List ℕ). xfAfter x bytes xf) (l .load-is) ∙ load-xf (l .register) (l .number) bytes xf
 
   pub keeps-vertex : (bytes buffer : List ℕ) → vertexAfter c bytes buffer ≡ buffer
-  keeps-vertex bytes buffer = ap (λ (x : List ℕ). vertexAfter x bytes buffer) (l .load-is) ∙ load-vertex (l .register) (l .number) bytes buffer
+  keeps-vertex bytes buffer =
+      ap (λ (x : List ℕ). vertexAfter x bytes buffer) (l .load-is) ∙ load-vertex (l .register) (l .number) bytes buffer
 
   pub keeps-draw : (draw : Draw) → drawAfter c draw ≡ draw
   keeps-draw draw = ap (λ (x : List ℕ). drawAfter x draw) (l .load-is) ∙ load-draw (l .register) (l .number) draw
