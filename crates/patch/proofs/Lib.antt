@@ -6,3 +6,4 @@ pub mod Writing
 pub mod Execution
 pub mod Stream
 pub mod Meanings
+pub mod Merges

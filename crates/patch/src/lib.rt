@@ -1,5 +1,8 @@
-// Patches of the BP registers (document 01's correction sheets): checked and written.
+// Patches of the BP registers (document 01's correction sheets): checked, merged and written.
+mod merging;
+
 use command::Command;
+pub use merging::merge;
 use refusal::Reason;
 use writer::Written;
 ghost use mathlib.Core.Path.{_≡_};
