@@ -44,7 +44,8 @@ module _ {w out₀ out : List ℕ} {k : ℕ} where
             ap₂ (λ (x y : List ℕ). x ++ (b ++ drop (length b) y)) front back
             ∙ sym (append-assoc (take k w) b (drop (length b) (drop k out₀)))
             ∙ ap₂ (λ (x y : List ℕ). x ++ y)
-            (sym (take-add k (length b) w ∙ ap (λ (x : List ℕ). take k w ++ take (length b) x) (h .to-come) ∙ ap (λ (x : List ℕ). take k w ++ x) (take-append-seam b q)))
+            (sym (take-add k (length b) w ∙ ap (λ (x : List ℕ). take k w ++ take (length b) x) (h .to-come)
+            ∙ ap (λ (x : List ℕ). take k w ++ x) (take-append-seam b q)))
             (drop-drop (length b) k out₀);
         to-come = sym (drop-drop (length b) k w) ∙ ap (λ (x : List ℕ). drop (length b) x) (h .to-come) ∙ drop-append-seam b q;
         inside = omega (arith, simp length-append at (pieces-left h));

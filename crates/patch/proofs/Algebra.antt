@@ -1,19 +1,22 @@
 -- Merging and applying patches: grouping, one merged patch for two in turn, and when two patches may change places.
 use mathlib.Core.Path.{_≡_, refl, sym, ap, ap₂, _∙_}
 use mathlib.Core.Logic.{_↔_}
-use mathlib.Core.List.{List, []}
+use mathlib.Core.Bool.{Bool, true, false, cond, _&&_, _||_}
+use mathlib.Core.List.{List}
 use Prim.Native.Nat.{ℕ, _<_}
 use lib.Dec.{lit<}
 use lib.Bits.{bitOr, or-lt}
 use lib.ListN.{length, getD}
 use lib.Seq.{ext-getD}
+use Rattle.laws.specs.Bits.{bit}
+use Rattle.laws.proofs.Bits.{bit-and, bit-or}
 use Rattle.laws.proofs.Filled.{length-upTo, getD-upTo}
 use Rattle.laws.proofs.Front.{upTo-ext}
 use Rattle.effect.specs.Effect.{masked, maskPlace}
 use Rattle.patch.specs.Patch.{bpCount, Patch, maskAt, numberAt, IsAccepted, appliedTo, mergedOf, blank}
 use Rattle.patch.specs.Registers.{Open, AgreeAt, Agree}
 use Rattle.patch.proofs.Faults.{Sound, sound, accepted}
-use Rattle.patch.proofs.Masked.{masked-lt, masked-none, masked-masked, masked-swap, masked-inside, or-assoc}
+use Rattle.patch.proofs.Masked.{masked-bit, masked-lt, masked-none, masked-masked, masked-swap, masked-inside, or-assoc}
 
 -- ---- register by register
 
@@ -42,6 +45,34 @@ pub applied-size : (bp : List ℕ) (p : Patch) → length (appliedTo bp p) ≡ b
 unfolding appliedTo
 applied-size bp p = length-upTo _ bpCount
 
+-- ---- bit by bit
+
+-- "A merge names the bits that either sheet names"
+pub merged-names : (r : ℕ) → r < bpCount → (a b : Patch) (k : ℕ)
+    → bit k (maskAt (mergedOf a b) r) ≡ (bit k (maskAt a r) || bit k (maskAt b r))
+merged-names r l a b k = ap (bit k) (merged-mask r l a b) ∙ bit-or k (maskAt a r) (maskAt b r)
+
+-- "each is B's where B names it, else A's"
+pub merged-bit : (r : ℕ) → r < bpCount → (a b : Patch) (k : ℕ) → k < 24
+    → bit k (numberAt (mergedOf a b) r) ≡ cond (bit k (maskAt b r)) (bit k (numberAt b r)) (bit k (numberAt a r))
+merged-bit r l a b k h = ap (bit k) (merged-number r l a b) ∙ masked-bit k (numberAt a r) (maskAt b r) (numberAt b r) h
+
+-- "and all other number bits are 0", as in every accepted patch
+pub unnamed-zero : (p : Patch) → IsAccepted p → (r : ℕ) → r < bpCount → (k : ℕ) → bit k (maskAt p r) ≡ false
+    → bit k (numberAt p r) ≡ false
+unnamed-zero p ok r l k e =
+    ap (bit k) (sym (sound p ok .inside r l)) ∙ bit-and k (numberAt p r) (maskAt p r)
+    ∙ ap (λ (x : Bool). bit k (numberAt p r) && x) e ∙ none (bit k (numberAt p r))
+  where
+    none : (b : Bool) → (b && false) ≡ false
+    none true = refl
+    none false = refl
+
+-- "BP register r is the start's outside mask r, number r inside"
+pub applied-bit : (r : ℕ) → r < bpCount → (bp : List ℕ) (p : Patch) (k : ℕ) → k < 24
+    → bit k (getD (appliedTo bp p) r 0) ≡ cond (bit k (maskAt p r)) (bit k (numberAt p r)) (bit k (getD bp r 0))
+applied-bit r l bp p k h = ap (bit k) (applied-at r l bp p) ∙ masked-bit k (getD bp r 0) (maskAt p r) (numberAt p r) h
+
 -- ---- "the merge of accepted sheets is accepted"
 
 merged-sound : (a b : Patch) → Sound a → Sound b → Sound (mergedOf a b)
@@ -51,7 +82,9 @@ merged-sound a b ha hb =
       masks-size = length-upTo _ bpCount;
       numbers-size = length-upTo _ bpCount;
       mask-mask = merged-mask maskPlace (lit< tt) a b ∙ ap₂ bitOr (ha .mask-mask) (hb .mask-mask);
-      mask-number = merged-number maskPlace (lit< tt) a b ∙ rw (ha .mask-number, hb .mask-mask, hb .mask-number) (masked-none 0 0 (lit< tt));
+      mask-number =
+          merged-number maskPlace (lit< tt) a b
+          ∙ rw (ha .mask-number, hb .mask-mask, hb .mask-number) (masked-none 0 0 (lit< tt));
       small = λ r l. rw (merged-mask r l a b) (or-lt 24 _ _ (ha .small r l) (hb .small r l));
       inside = λ r l. rw (merged-mask r l a b, merged-number r l a b)
           (masked-inside 0 (maskAt a r) (numberAt a r) (maskAt b r) (numberAt b r)

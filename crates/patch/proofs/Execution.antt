@@ -12,12 +12,14 @@ use lib.Seq.{ext-getD, getD-set-same, getD-set-other, set-set, set-comm, set-get
 use borrow.Author.Tests.{ne-eqb}
 use Rattle.command.specs.Command.{loadBp}
 use Rattle.effect.specs.Effect.{masked, maskPlace, storedBp, loadedBp, bpAfter}
-use Rattle.patch.specs.Patch.{bpCount, Patch, maskAt, numberAt, IsAccepted, AllAccepted, appliedTo, mergedOf, blank, mergedFrom, mergedAll}
+use Rattle.patch.specs.Patch.{bpCount, Patch, maskAt, numberAt, IsAccepted, AllAccepted}
+use Rattle.patch.specs.Patch.{appliedTo, mergedOf, blank, mergedFrom, mergedAll}
 use Rattle.patch.specs.Registers.{Open, Agree}
 use Rattle.patch.specs.Commands.{commandsAt, commandsFrom, commandsOf, commandsOfAll, bpAfterAll}
 use Rattle.patch.proofs.Faults.{Sound, sound}
 use Rattle.patch.proofs.Masked.{masked-lt, masked-none, masked-full}
-use Rattle.patch.proofs.Algebra.{applied-at, applied-size, applied-open, applied-blank, applied-merged, applied-swap, merged-accepted, blank-accepted}
+use Rattle.patch.proofs.Algebra.{applied-at, applied-size, applied-open, applied-blank, applied-merged, applied-swap}
+use Rattle.patch.proofs.Algebra.{merged-accepted, blank-accepted}
 
 pub after-append : (cs ds : List (List ℕ)) (bp : List ℕ) → bpAfterAll (cs ++ ds) bp ≡ bpAfterAll ds (bpAfterAll cs bp)
 unfolding bpAfterAll
@@ -53,7 +55,12 @@ set-between bp r m v e f =
 pub load-pair : (bp : List ℕ) (r m n : ℕ) → length bp ≡ bpCount → getD bp maskPlace 0 ≡ 0xFFFFFF → r ≢ maskPlace → m < 2 ^ 24
     → loadedBp (loadedBp bp maskPlace m) r n ≡ set bp r (masked (getD bp r 0) m n)
 load-pair bp r m n z e f h =
-    rw (load-mask bp m e h, load-other (set bp maskPlace m) r n f, getD-set-other bp maskPlace r m 0 f, getD-set-same bp maskPlace m 0 (omega arith))
+    rw (
+      load-mask bp m e h,
+      load-other (set bp maskPlace m) r n f,
+      getD-set-other bp maskPlace r m 0 f,
+      getD-set-same bp maskPlace m 0 (omega arith),
+    )
     (set-between bp r m (masked (getD bp r 0) m n) e f)
 
 -- ---- the commands of one patch
@@ -121,10 +128,11 @@ module _ (p : Patch) (ok : Sound p) where
   does zero r i bp g l h k = absurd (omega arith)
   does (suc n) r i bp g l h k =
       let g' : Open (patched p r bp) = patched-open r bp g (omega arith) in
+      let rest : List ℕ = bpAfterAll (commandsFrom n (suc r) p) (patched p r bp) in
       ap (λ (x : List ℕ). getD x i 0) (one-more n r bp g (omega arith))
       ∙ elim (eq-or-lt-of-le h) [
         | inl q ↦
-            subst (λ (x : ℕ). getD (bpAfterAll (commandsFrom n (suc r) p) (patched p r bp)) x 0 ≡ masked (getD bp x 0) (maskAt p x) (numberAt p x)) q
+            subst (λ (x : ℕ). getD rest x 0 ≡ masked (getD bp x 0) (maskAt p x) (numberAt p x)) q
             (keeps n (suc r) r (patched p r bp) g' (omega arith) (omega arith) ∙ at-same r bp g (omega arith))
         | inr q ↦
             does n (suc r) i (patched p r bp) g' (omega arith) q (omega arith)
@@ -161,7 +169,8 @@ executed-from (p ∷ ps) a bp oks ok g =
     ∙ executed-from ps (mergedOf a p) bp (oks .1) (merged-accepted a p ok (oks .0)) g
 
 -- executing the commands of accepted patches in order gives what the rules give for them merged from all zeros
-pub executed-all : (ps : List Patch) (bp : List ℕ) → AllAccepted ps → Open bp → bpAfterAll (commandsOfAll ps) bp ≡ appliedTo bp (mergedAll ps)
+pub executed-all : (ps : List Patch) (bp : List ℕ) → AllAccepted ps → Open bp
+    → bpAfterAll (commandsOfAll ps) bp ≡ appliedTo bp (mergedAll ps)
 unfolding mergedAll
 executed-all ps bp oks g =
     ap (bpAfterAll (commandsOfAll ps)) (sym (applied-blank bp g)) ∙ executed-from ps blank bp oks blank-accepted g
@@ -183,7 +192,8 @@ pub applied-two : (a b : Patch) (bp : List ℕ) → IsAccepted a → IsAccepted 
 unfolding mergedAll mergedFrom
 applied-two a b bp pa pb g =
     applied-merged bp (mergedOf blank a) b (merged-accepted blank a blank-accepted pa) pb
-    ∙ ap (λ (x : List ℕ). appliedTo x b) (applied-merged bp blank a blank-accepted pa ∙ ap (λ (x : List ℕ). appliedTo x a) (applied-blank bp g))
+    ∙ ap (λ (x : List ℕ). appliedTo x b)
+    (applied-merged bp blank a blank-accepted pa ∙ ap (λ (x : List ℕ). appliedTo x a) (applied-blank bp g))
 
 -- executed or applied, A then B leaves the same registers as B then A exactly when they agree
 pub merged-swap : (a b : Patch) (bp : List ℕ) → IsAccepted a → IsAccepted b → Open bp

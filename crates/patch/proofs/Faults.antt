@@ -55,7 +55,8 @@ module _ (p : Patch) (r : ℕ) where
 
   pub fault-here : r < bpCount → (reason : Reason) → number reason ≡ here → faultFrom (bpCount - r) r p ≡ number reason
   fault-here h reason e =
-      from-here h ∙ ap (λ (x : ℕ). orElse x (faultFrom (bpCount - (r + 1)) (r + 1) p)) (sym e) ∙ or-some (number reason) _ (number-some reason)
+      from-here h ∙ ap (λ (x : ℕ). orElse x (faultFrom (bpCount - (r + 1)) (r + 1) p)) (sym e)
+      ∙ or-some (number reason) _ (number-some reason)
 
   pub fault-end : r ≡ bpCount → faultFrom (bpCount - r) r p ≡ 0
   unfolding faultFrom
@@ -97,7 +98,8 @@ clean-at r m n e = go (eqb r maskPlace && (not (eqb m 0) || not (eqb n 0))) (ltb
     go false false false x y z w = absurd (omega arith)
     go false false true x y z w =
         record {
-          of-mask = λ h. let b = unnamed (eqb r maskPlace) (eqb m 0) (eqb n 0) x (eq-eqb _ _ h) in (eqb-true _ _ (b .0), eqb-true _ _ (b .1));
+          of-mask =
+              λ h. let b = unnamed (eqb r maskPlace) (eqb m 0) (eqb n 0) x (eq-eqb _ _ h) in (eqb-true _ _ (b .0), eqb-true _ _ (b .1));
           narrow = omega (arith, ltb-false 0xFFFFFF m y);
           inside = eqb-true _ _ z;
         }

@@ -5,3 +5,5 @@ pub mod Loads
 pub mod Writing
 pub mod Execution
 pub mod Stream
+pub mod Meanings
+pub mod Merges

@@ -102,7 +102,8 @@ module _ (o m n m' n' : ℕ) (h : m < 2 ^ 24) (h' : m' < 2 ^ 24) where
       same-bits 24 (bitAnd (masked n m' n') (bitOr m m')) (masked n m' n')
       (lt-of-le-of-lt (and-le-r (masked n m' n') (bitOr m m')) (or-lt 24 m m' h h')) (masked-lt n m' n' h')
       (λ k l. simp (bit-and, bit-or, masked-bit, l)
-      (inside-either (bit k m) (bit k n) (bit k m') (bit k n') (sym (bit-and k n m) ∙ ap (bit k) e) (sym (bit-and k n' m') ∙ ap (bit k) f)))
+      (inside-either (bit k m) (bit k n) (bit k m') (bit k n')
+      (sym (bit-and k n m) ∙ ap (bit k) e) (sym (bit-and k n' m') ∙ ap (bit k) f)))
 
 or-cases : (a b c : Bool) → ((a || b) || c) ≡ (a || (b || c))
 or-cases true b c = refl

@@ -12,16 +12,17 @@ use Rattle.octets.specs.BigEndian.{bigEndian, bytesOf}
 use Rattle.octets.proofs.Written.{read-back}
 use Rattle.command.specs.Command.{waiting, unit, loadBp}
 use Rattle.command.specs.Look.{whole, lookBp, byOpcode, lookOf}
+use Rattle.command.specs.declared.Draw.{Draw}
 use Rattle.command.specs.declared.Draw.the-variants.{Closed}
 use Rattle.command.proofs.Opcodes.{at-opcode}
-use Rattle.effect.specs.Effect.{maskPlace}
+use Rattle.effect.specs.Effect.{maskPlace, cpAfter, xfAfter, vertexAfter, drawAfter}
 use Rattle.writer.specs.Write.{commandBytes}
 use Rattle.writer.proofs.RoundTrip.{bp-back}
 use Rattle.patch.specs.Patch.{bpCount, Patch, maskAt, numberAt, IsAccepted, AllAccepted}
 use Rattle.patch.specs.Commands.{commandsAt, commandsFrom, commandsOf, commandsOfAll, bytesOfCommands, patchBytes, bytesOfPatches}
 use Rattle.patch.specs.Stream.{IsLoad, AllLoads, lacking, Begins}
 use Rattle.patch.proofs.Faults.{Sound, sound, number-small}
-use Rattle.patch.proofs.Loads.{load-bytes, load-length}
+use Rattle.patch.proofs.Loads.{load-bytes, load-length, load-cp, load-xf, load-vertex, load-draw}
 use Rattle.patch.proofs.Writing.{bytes-append}
 
 -- ---- a load's five bytes
@@ -31,6 +32,22 @@ its-bytes c l = ap (λ (x : List ℕ). commandBytes x []) (l .load-is) ∙ load-
 
 pub five-bytes : (c : List ℕ) → IsLoad c → length (commandBytes c []) ≡ 5
 five-bytes c l = ap (λ (x : List ℕ). length (commandBytes x [])) (l .load-is) ∙ load-length (l .register) (l .number)
+
+-- ---- it leaves everything but the BP registers
+
+module _ (c : List ℕ) (l : IsLoad c) where
+  pub keeps-cp : (cp : List ℕ) → cpAfter c cp ≡ cp
+  keeps-cp cp = ap (λ (x : List ℕ). cpAfter x cp) (l .load-is) ∙ load-cp (l .register) (l .number) cp
+
+  pub keeps-xf : (bytes xf : List ℕ) → xfAfter c bytes xf ≡ xf
+  keeps-xf bytes xf = ap (λ (x : List ℕ). xfAfter x bytes xf) (l .load-is) ∙ load-xf (l .register) (l .number) bytes xf
+
+  pub keeps-vertex : (bytes buffer : List ℕ) → vertexAfter c bytes buffer ≡ buffer
+  keeps-vertex bytes buffer =
+      ap (λ (x : List ℕ). vertexAfter x bytes buffer) (l .load-is) ∙ load-vertex (l .register) (l .number) bytes buffer
+
+  pub keeps-draw : (draw : Draw) → drawAfter c draw ≡ draw
+  keeps-draw draw = ap (λ (x : List ℕ). drawAfter x draw) (l .load-is) ∙ load-draw (l .register) (l .number) draw
 
 -- ---- the commands of accepted patches are loads
 
@@ -84,11 +101,14 @@ module _ (q later cp : List ℕ) where
         look-is = look;
         bytes-are = front;
         rest-is =
-            sym (drop-append-le 5 q later h) ∙ ap (λ (x : List ℕ). drop 5 x) e ∙ drop-at (commandBytes c []) (bytesOfCommands cs) 5 (five-bytes c load);
+            sym (drop-append-le 5 q later h) ∙ ap (λ (x : List ℕ). drop 5 x) e
+            ∙ drop-at (commandBytes c []) (bytesOfCommands cs) 5 (five-bytes c load);
       }
     where
       front : take 5 q ≡ commandBytes c []
-      front = sym (take-append-le 5 q later h) ∙ ap (λ (x : List ℕ). take 5 x) e ∙ take-at (commandBytes c []) (bytesOfCommands cs) 5 (five-bytes c load)
+      front =
+          sym (take-append-le 5 q later h) ∙ ap (λ (x : List ℕ). take 5 x) e
+          ∙ take-at (commandBytes c []) (bytesOfCommands cs) 5 (five-bytes c load)
 
       split : q ≡ 0x61 ∷ load .register ∷ (bytesOf 3 (load .number) ++ drop 5 q)
       split =

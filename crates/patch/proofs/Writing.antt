@@ -126,7 +126,8 @@ module _ {p : Patch} {r : ℕ} {out₀ out : List ℕ} {at : ℕ} where
   writing-named h l f =
       subst (λ (x : List ℕ). Pieces (patchBytes p) out₀ out at x)
       (from-next p r l ∙ ap (λ (x : List ℕ). x ++ bytesFrom (r + 1) p) (at-named r (maskAt p r) (numberAt p r) f)
-      ∙ append-assoc (commandBytes (loadBp maskPlace (maskAt p r)) []) (commandBytes (loadBp r (numberAt p r)) []) (bytesFrom (r + 1) p)) (h .pieces)
+      ∙ append-assoc (commandBytes (loadBp maskPlace (maskAt p r)) []) (commandBytes (loadBp r (numberAt p r)) []) (bytesFrom (r + 1) p))
+      (h .pieces)
 
   pub writing-all : Writing p out₀ out at r → r ≡ bpCount → out ≡ placed (patchBytes p) out₀
   unfolding bytesFrom commandsFrom bytesOfCommands
@@ -147,8 +148,8 @@ put-done out v at register n h k e =
     }
 
 -- there is room for the next load
-pub load-fits : {w out₀ out : List ℕ} {at : ℕ} (register n : ℕ) (q : List ℕ) → Pieces w out₀ out at (commandBytes (loadBp register n) [] ++ q)
-    → at + 5 ≤ length out
+pub load-fits : {w out₀ out : List ℕ} {at : ℕ} (register n : ℕ) (q : List ℕ)
+    → Pieces w out₀ out at (commandBytes (loadBp register n) [] ++ q) → at + 5 ≤ length out
 load-fits register n q h =
     omega (arith, pieces-fit h, length-append (commandBytes (loadBp register n) []) q, load-length register n)
 

@@ -4,3 +4,4 @@ pub mod Commands
 pub mod Answers
 pub mod Writing
 pub mod Stream
+pub mod Merging

@@ -67,7 +67,7 @@ IsAccepted p = faultOf p ≡ 0
 unfoldable pub appliedTo : List ℕ → Patch → List ℕ
 appliedTo bp p = upTo (λ r. masked (getD bp r 0) (maskAt p r) (numberAt p r)) bpCount
 
--- "A merge names the bits that either sheet names; each is B's where B names it, else A's, and all other number bits are 0" (as they are in A)
+-- "A merge names the bits that either sheet names; each is B's where B names it, else A's, and all other number bits are 0" (as in A)
 unfoldable pub mergedOf : Patch → Patch → Patch
 mergedOf a b =
     record {

@@ -1,5 +1,8 @@
-// Patches of the BP registers (document 01's correction sheets): checked and written.
+// Patches of the BP registers (document 01's correction sheets): checked, merged and written.
+mod merging;
+
 use command::Command;
+pub use merging::merge;
 use refusal::Reason;
 use writer::Written;
 ghost use mathlib.Core.Path.{_≡_};
@@ -83,7 +86,7 @@ fn put(out: &mut [u8], at: usize, register: u8, number: u32) -> usize
     at + 5
 }
 
-// The loads of an accepted patch, to the front of an output that has room for them: registers ascending, each mask not zero before its number.
+// The loads of an accepted patch, to the front of an output that has room for them: registers ascending, each mask before its number.
 fn put_all(masks: &[u32], numbers: &[u32], out: &mut [u8])
     requires { ⌜ IsAccepted (patchOf (now masks) (now numbers)) × (sizeFrom 256 0 (now masks) ≤ length (now out)) ⌝ }
     ensures { λ _. ⌜ now (out .exit) ≡ placed (patchBytes (patchOf (now (masks .entry)) (now (numbers .entry)))) (now (out .entry)) ⌝ }

@@ -64,7 +64,8 @@ returns-4 : tie.Need-returns-4 Inv-loop μ-loop
 returns-4 c =
     let l = c .before .before .before .before .before .before .before in
     let h : l .loop .r < bpCount = omega arith in
-    sym (l .loop .inv .1 ∙ fault-here _ _ h (c .before .fault .given .0 .0) (ap meaning (sym (c .before .fault .given .1)) ∙ c .before .before .before .fault-at .ensures))
+    let told = c .before .fault .given in
+    sym (l .loop .inv .1 ∙ fault-here _ _ h (told .0 .0) (ap meaning (sym (told .1)) ∙ c .before .before .before .fault-at .ensures))
 
 pub check-spec : {M : Type 1} → statement M
 check-spec =

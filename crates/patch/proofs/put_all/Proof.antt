@@ -83,7 +83,8 @@ loop-again c =
     (omega arith, writing-skip (c .before .before .before .loop .inv .1) h (c .if1 .taken))
 
 put-requires : tie.Need-put-requires Inv-loop μ-loop
-put-requires c κs = (load-fits _ _ (second (c .before)) (named (c .before)), sound-of (c .before) .small (reg (c .before)) (in-range (c .before)))
+put-requires c κs =
+    let n = c .before in (load-fits _ _ (second n) (named n), sound-of n .small (reg n) (in-range n))
 
 cast-put : tie.Need-cast-put Inv-loop μ-loop
 cast-put c = search needs
@@ -97,7 +98,9 @@ shared-slice-read-put c = omega (arith, in-range (at-named c), sound-of (at-name
 put-requires-2 : tie.Need-put-requires-2 Inv-loop μ-loop
 put-requires-2 c κs =
     let n = at-named c in
-    (load-fits _ _ (bytesFrom (reg n + 1) (of n)) (once c), number-small (of n) (sound-of n) (reg n) (in-range n))
+    let fits = load-fits _ _ (bytesFrom (reg n + 1) (of n)) (once c) in
+    let next = c .before .before .before .before .put .ensures .next-is in
+    (omega (arith, fits, next), number-small (of n) (sound-of n) (reg n) (in-range n))
 
 add-r-2 : tie.Need-add-r-2 Inv-loop μ-loop
 add-r-2 c = search needs

@@ -44,7 +44,8 @@ same-length c = search needs
 returns-3 : tie.Need-returns-3
 returns-3 c =
     let s = c .before .before .before .before .before in
-    by-writing _ _ (accepted (s .before)) _ (s .size .ensures .0) _ (c .before .before .before .before .if1 .left) (c .before .before .put-all .ensures)
+    by-writing _ _ (accepted (s .before)) _ (s .size .ensures .0) _ (c .before .before .before .before .if1 .left)
+    (c .before .before .put-all .ensures)
 
 pub write-spec : {M : Type 1} → statement M
 write-spec =
