@@ -2,7 +2,7 @@
 use borrow.Author.Needs.{needs}
 use mathlib.Core.Path.{_≡_, sym, ap, ap₂, _∙_}
 use mathlib.Core.Bool.{Bool, true, not, _&&_}
-use Rattle.laws.proofs.Cases.{not-false}
+use borrow.Author.Tests.{not-false}
 use Rattle.patch.proofs.Merges.{all-sized, by-size, by-a, by-b, by-merging}
 use Rattle.patch.specs.Answers.{meaning}
 use Rattle.patch.specs.Patch.{Patch, patchOf, isSized}
