@@ -20,7 +20,8 @@ use Rattle.fifo.proofs.FeedLaws.{pending-after}
 use Rattle.fifo.proofs.Pending.{length-pending}
 use Rattle.processor.specs.Step.{stepFound, stepOf}
 use Rattle.processor.specs.Run.{Taken}
-use Rattle.history.specs.Calls.{World, Call, feed, step, run, write, read, queue, after, fed, unitsOf, afterAll, fedAll, unitsAll, consumedBy, harmless, Harmless, AllHarmless}
+use Rattle.history.specs.Calls.{World, Call, feed, step, run, write, read, queue, countAt, after, fed}
+use Rattle.history.specs.Calls.{unitsOf, afterAll, fedAll, unitsAll, consumedBy, harmless, Harmless, AllHarmless}
 use Rattle.history.proofs.Flow.{Flows, flow-found, flow-run}
 
 -- ---- a write of control, clear or a mark leaves the queue
@@ -63,10 +64,6 @@ call-flow w step h = rw (append-nil (queue w)) (flow-found (w .ring) (w .state) 
 call-flow w (run limit) h = rw (append-nil (queue w)) (flow-run (w .ring) limit (w .state))
 call-flow w (write o v) h = rw (append-nil (queue w)) (written-kept (w .state .fifo) o v (w .ring) h, omega arith)
 call-flow w (read o) h = rw (append-nil (queue w)) (refl, omega arith)
-
--- the count of a world
-abbrev pub countAt : World → ℕ
-countAt w = countOf (w .state .fifo .window)
 
 count-call : (w : World) (c : Call) → Harmless c → countAt (after w c) + consumedBy (unitsOf w c) ≡ countAt w + length (fed w c)
 count-call w c h =

@@ -31,8 +31,8 @@ use Rattle.processor.specs.Gate.{stateFits, gateBy, gateOf}
 use Rattle.processor.specs.Step.{queueOf, lookAt, stepFound}
 use Rattle.processor.specs.Run.{runOf}
 use Rattle.history.specs.Calls.{World, feed, after}
-use Rattle.history.specs.More.{Longer, NotWaiting}
-use Rattle.history.proofs.More.{SameRun, step-longer, run-longer}
+use Rattle.history.specs.More.{Longer, NotWaiting, SameRun}
+use Rattle.history.proofs.More.{step-longer, run-longer}
 
 -- ---- a feed makes the queue longer, and leaves 1 to 5
 refused-same : (f : Fifo) (ring bytes : List ℕ) → accepted f ring bytes ≡ false

@@ -26,7 +26,7 @@ use Rattle.processor.specs.Run.{Taken, Ended, stopOf, goneOn, steps, gated, run
 use Rattle.processor.proofs.Passing.{Passes, gate-passes, passes-gate}
 use Rattle.processor.proofs.Bridge.{unit-fits}
 use Rattle.processor.proofs.Valid.{step-passes}
-use Rattle.history.specs.More.{Longer, NotWaiting}
+use Rattle.history.specs.More.{Longer, NotWaiting, SameRun}
 use Rattle.history.proofs.Flow.{step-unit}
 
 unit-no-waiting : {c : List ℕ} {m n k : ℕ} → unit c m n ≡ waiting k → ⊥
@@ -82,11 +82,6 @@ module _ {ring : List ℕ} {s : State} {ring' : List ℕ} {t : State} {more : Li
       }
 
 -- ---- steps
-pub record SameRun (ring : List ℕ) (e : Ended) (ring' : List ℕ) (d : Ended) (more : List ℕ) : Type 0 where
-  pub units-are : d .units ≡ e .units
-  pub stop-is : d .stop ≡ e .stop
-  pub state-is : Longer ring (e .state) ring' (d .state) more
-
 gone-longer : {ring : List ℕ} {s : State} {ring' : List ℕ} {t : State} {more : List ℕ} → Longer ring s ring' t more → (found : Found) (e d : Ended)
     → ((c : List ℕ) (m n : ℕ) → found ≡ unit c m n → NotWaiting (e .stop) → SameRun ring e ring' d more)
     → NotWaiting (goneOn found s e .stop) → SameRun ring (goneOn found s e) ring' (goneOn found t d) more

@@ -57,6 +57,10 @@ withRing w ring = record { state = w .state; ring = ring }
 abbrev pub queue : World → List ℕ
 queue w = queueOf (w .ring) (w .state)
 
+-- how many they are
+abbrev pub countAt : World → ℕ
+countAt w = countOf (w .state .fifo .window)
+
 -- the world after a call: what feed, step, run and write_register promise of it
 abbrev pub after : World → Call → World
 after w (feed bytes) =

@@ -6,6 +6,7 @@ use lib.ListN.{length}
 use Rattle.processor.specs.State.{State}
 use Rattle.processor.specs.Gate.{gateOf}
 use Rattle.processor.specs.Step.{queueOf}
+use Rattle.processor.specs.Run.{Ended}
 
 -- the state t, over its ring, is s with more bytes at the end of its queue
 pub record Longer (ring : List ℕ) (s : State) (ring' : List ℕ) (t : State) (more : List ℕ) : Type 0 where
@@ -20,3 +21,9 @@ pub record Longer (ring : List ℕ) (s : State) (ring' : List ℕ) (t : State) (
 -- a run that ended by its limit or a refusal
 abbrev pub NotWaiting : List ℕ → Type 0
 NotWaiting stop = (k : ℕ) → stop ≡ 255 ∷ k ∷ [] → ⊥
+
+-- two runs with the same units and the same end, the second with more bytes still pending
+pub record SameRun (ring : List ℕ) (e : Ended) (ring' : List ℕ) (d : Ended) (more : List ℕ) : Type 0 where
+  pub units-are : d .units ≡ e .units
+  pub stop-is : d .stop ≡ e .stop
+  pub state-is : Longer ring (e .state) ring' (d .state) more

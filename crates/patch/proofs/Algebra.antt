@@ -73,7 +73,7 @@ pub applied-bit : (r : ℕ) → r < bpCount → (bp : List ℕ) (p : Patch) (k :
     → bit k (getD (appliedTo bp p) r 0) ≡ cond (bit k (maskAt p r)) (bit k (numberAt p r)) (bit k (getD bp r 0))
 applied-bit r l bp p k h = ap (bit k) (applied-at r l bp p) ∙ masked-bit k (getD bp r 0) (maskAt p r) (numberAt p r) h
 
--- ---- "the merge of accepted sheets is accepted"
+-- ---- the merge of accepted patches is accepted
 
 merged-sound : (a b : Patch) → Sound a → Sound b → Sound (mergedOf a b)
 unfolding mergedOf
@@ -106,7 +106,7 @@ blank-accepted =
       inside = λ r l. rw (blank-mask r l) refl;
     })
 
--- ---- "merging three accepted sheets either way gives the same masks and numbers"
+-- ---- "Grouping three accepted sheets either way merges to the same masks and numbers."
 
 pub merged-assoc : (a b c : Patch) → IsAccepted a → IsAccepted b → IsAccepted c
     → mergedOf (mergedOf a b) c ≡ mergedOf a (mergedOf b c)
@@ -155,7 +155,7 @@ applied-blank bp g =
     (λ r h. let l : r < bpCount = rw (applied-size bp blank) at h in
     applied-at r l bp blank ∙ rw (blank-mask r l) (masked-none (getD bp r 0) _ (g .wide r l)))
 
--- ---- "A then B leaves the same registers as B then A exactly when every bit that both name has the same value in both"
+-- ---- two patches may change places exactly when they agree
 
 pub applied-swap : (bp : List ℕ) (a b : Patch) → IsAccepted a → IsAccepted b
     → (appliedTo (appliedTo bp a) b ≡ appliedTo (appliedTo bp b) a) ↔ Agree a b

@@ -8,3 +8,4 @@ pub mod Valid
 pub mod Stepping
 pub mod Course
 pub mod Runs
+pub mod Meanings

@@ -58,7 +58,7 @@ module _ (ring : List ℕ) (o : Octets ring) (s : State) where
   unfolding stepOf
   step-after e = ap (after ring s) (step-passed e)
 
-  -- "Valid states stay valid"
+  -- a state that passes 1 to 5 passes them after a step
   pub step-passes : gateOf s (length ring) ≡ 0 → gateOf (stepOf ring s) (length ring) ≡ 0
   step-passes e =
       rw (step-after e) (passes-gate (after ring s (lookAt ring s)) (length ring) (after-passes (lookAt ring s) refl (gate-passes s (length ring) e)))

@@ -11,7 +11,8 @@ use Rattle.fifo.specs.Window.{freshFifo}
 use Rattle.processor.specs.declared.Machine.{Machine}
 use Rattle.processor.specs.declared.Registers.{Registers}
 
--- all that a unit can change: the fifo, the registers and open draw, the XF words, and the vertex buffer
+-- all that a unit can change: the fifo, the registers and open draw, and of the lent memory the XF words and the vertex buffer. The ring is
+-- lent too; a unit leaves it.
 pub record State : Type 0 where
   pub fifo : Fifo
   pub cp : List ℕ

@@ -1,5 +1,6 @@
 -- Demand 3, and document 01's "Sheets in a row": patches fed one after the other, in any accepted pieces.
 use mathlib.Core.Path.{_≡_}
+use mathlib.Core.Logic.{_↔_}
 use mathlib.Core.List.{List, [], _∷_}
 use Prim.Native.Nat.{ℕ}
 use lib.ListN.{length, getD}
@@ -7,7 +8,8 @@ use Rattle.command.specs.declared.Draw.the-variants.{Closed}
 use Rattle.effect.specs.Effect.{maskPlace}
 use Rattle.processor.specs.Gate.{gateOf}
 use Rattle.history.specs.Calls.{World, Call, feed, step, run, write, read, queue, afterAll, fedAll}
-use Rattle.patch.specs.Patch.{Patch, bpCount, AllAccepted, appliedTo, mergedAll}
+use Rattle.patch.specs.Patch.{Patch, bpCount, IsAccepted, AllAccepted, appliedTo, mergedOf, mergedAll}
+use Rattle.patch.specs.Registers.{Agree}
 use Rattle.patch.specs.Commands.{bytesOfPatches}
 
 -- "Begin with nothing that document 01 refuses by 1, 2 or 3, an empty ring, no draw open, the mask at FFFFFF and reading allowed in
@@ -39,6 +41,11 @@ pub record Delivers (w : World) (cs : List Call) (ps : List Patch) : Type 0 wher
   pub fed-is : fedAll w cs ≡ bytesOfPatches ps
   pub emptied : queue (afterAll w cs) ≡ []
 
+-- some list of calls that does
+pub record SomeCalls (w : World) (ps : List Patch) : Type 0 where
+  pub calls : List Call
+  pub delivers : Delivers w calls ps
+
 -- "Compared are all 256 BP registers, all CP registers and all 4,184 XF words."
 pub record SameRegisters (a b : World) : Type 0 where
   pub bp-is : a .state .bp ≡ b .state .bp
@@ -50,3 +57,13 @@ pub record RulesGive (w : World) (p : Patch) (end : World) : Type 0 where
   pub bp-is : end .state .bp ≡ appliedTo (w .state .bp) p
   pub cp-is : end .state .cp ≡ w .state .cp
   pub xf-is : end .state .xf ≡ w .state .xf
+
+-- Demand 3 whole: "After the list the BP, CP and XF registers are those that the rules give for one merged sheet, a later sheet's bits winning";
+-- "Grouping three accepted sheets either way merges to the same masks and numbers"; "From any one such start, A then B leaves the same BP, CP and XF
+-- registers as B then A exactly when every bit that both name has the same value in both". The fourth part says that such lists of calls exist.
+pub record PatchesInRow : Type 0 where
+  pub promised : (w : World) (cs : List Call) (ps : List Patch) → Start w → Delivers w cs ps → RulesGive w (mergedAll ps) (afterAll w cs)
+  pub either-way : (a b c : Patch) → IsAccepted a → IsAccepted b → IsAccepted c → mergedOf (mergedOf a b) c ≡ mergedOf a (mergedOf b c)
+  pub either-order : (w : World) → Start w → (a b : Patch) (cs ds : List Call) → Delivers w cs (a ∷ b ∷ []) → Delivers w ds (b ∷ a ∷ [])
+      → SameRegisters (afterAll w cs) (afterAll w ds) ↔ Agree a b
+  pub delivered : (w : World) → Start w → (ps : List Patch) → AllAccepted ps → SomeCalls w ps

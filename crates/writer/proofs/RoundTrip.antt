@@ -1,4 +1,4 @@
--- "Stepping a written command gives it back", as far as the look: what is written for a command is looked at as that command.
+-- "Stepping a written command .. gives it back", as far as the look: what is written for a command is looked at as that command.
 use mathlib.Core.Path.{_≡_, refl, sym, ap, _∙_}
 use mathlib.Core.Bool.{true}
 use mathlib.Core.Logic.{_⊎_, inl, inr}

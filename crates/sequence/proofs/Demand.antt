@@ -1,0 +1,16 @@
+-- Demand 3, all of its parts in one theorem.
+use Rattle.patch.proofs.Algebra.{merged-assoc}
+use Rattle.patch.specs.Commands.{commandsOfAll}
+use Rattle.sequence.specs.Promise.{PatchesInRow}
+use Rattle.sequence.specs.Exist.{callsOf}
+use Rattle.sequence.proofs.Promise.{promise, either-order}
+use Rattle.sequence.proofs.Exist.{calls-exist}
+
+pub patches-in-row : PatchesInRow
+patches-in-row =
+    record {
+      promised = promise;
+      either-way = merged-assoc;
+      either-order = either-order;
+      delivered = λ w st ps oks. record { calls = callsOf (commandsOfAll ps); delivers = calls-exist w st ps oks };
+    }
