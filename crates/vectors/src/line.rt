@@ -68,3 +68,21 @@ pub fn write_hex(name: &[u8], n: u32) {
     io::write_all(STDOUT_FILENO, &digits);
     io::write_all(STDOUT_FILENO, b"\n");
 }
+
+// A blank, and a byte in hexadecimal.
+fn write_byte(byte: u8) {
+    let n = byte as u32;
+    let digits = [32, hex_digit(n / 16), hex_digit(n)];
+    io::write_all(STDOUT_FILENO, &digits);
+}
+
+// A vector's name and a load's five bytes in hexadecimal.
+pub fn write_load(name: &[u8], a: u8, b: u8, c: u8, d: u8, e: u8) {
+    io::write_all(STDOUT_FILENO, name);
+    write_byte(a);
+    write_byte(b);
+    write_byte(c);
+    write_byte(d);
+    write_byte(e);
+    io::write_all(STDOUT_FILENO, b"\n");
+}

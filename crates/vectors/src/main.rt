@@ -1,6 +1,7 @@
 // Document 01's numbers that are run and not proved: a line for each, its name and what came out. A module for each crate.
 mod commands;
 mod line;
+mod patches;
 mod ring;
 
 fn main() {
@@ -9,4 +10,5 @@ fn main() {
     commands::xf_loads();
     commands::indexed_load();
     commands::draw_heads();
+    patches::written();
 }
