@@ -8,8 +8,10 @@ use Rattle.refusal.specs.declared.Reason.{Reason}
 use Rattle.refusal.specs.Number.{number}
 use Rattle.refusal.proofs.Injective.{number-injective}
 use Rattle.refusal.proofs.Positive.{number-some}
-use Rattle.command.specs.Command.{numbersOf}
-use Rattle.command.proofs.Meanings.{numbers-injective}
+use Rattle.command.specs.declared.Next.{Next}
+use Rattle.command.specs.declared.Next.the-variants as N
+use Rattle.command.specs.Command as C
+use Rattle.command.proofs.Meanings.{meaning-injective}
 use Rattle.processor.specs.declared.StepAnswer.{StepAnswer}
 use Rattle.processor.specs.declared.StepAnswer.the-variants.{Done, Waiting, Refused}
 use Rattle.processor.specs.declared.Stop.{Stop}
@@ -20,27 +22,32 @@ use Rattle.processor.specs.Step.{meaning}
 use Rattle.processor.specs.Run.{meaningOfStop}
 use Rattle.processor.specs.Gate.{meaningOfGate}
 
--- two meanings of different kinds
-never : {A : Type 0} → _≡_ {A = ℕ} 0 1 → A
-never e = absurd (omega (arith, e))
+-- ---- a step's answer is what a look found, under other names
+foundOf : StepAnswer → Next
+foundOf (Done command memory length) = N.Unit command memory length
+foundOf (Waiting lacking) = N.Waiting lacking
+foundOf (Refused reason) = N.Refused reason
+
+answerOf : Next → StepAnswer
+answerOf (N.Unit command memory length) = Done command memory length
+answerOf (N.Waiting lacking) = Waiting lacking
+answerOf (N.Refused reason) = Refused reason
+
+back : (a : StepAnswer) → answerOf (foundOf a) ≡ a
+unfolding foundOf answerOf
+back (Done c m l) = refl
+back (Waiting k) = refl
+back (Refused r) = refl
+
+same : (a : StepAnswer) → C.meaning (foundOf a) ≡ meaning a
+unfolding foundOf
+same (Done c m l) = refl
+same (Waiting k) = refl
+same (Refused r) = refl
 
 pub answer-injective : (a b : StepAnswer) → meaning a ≡ meaning b → a ≡ b
-answer-injective (Done c m l) (Done d k j) e =
-    let p : numbersOf c ≡ numbersOf d = cc in
-    let q : c ≡ d = numbers-injective c d p in
-    let r : m ≡ k = cc in
-    let s : l ≡ j = cc in
-    cc
-answer-injective (Done c m l) (Waiting k) e = never (cc)
-answer-injective (Done c m l) (Refused r) e = never (cc)
-answer-injective (Waiting k) (Done c m l) e = never (cc)
-answer-injective (Waiting k) (Waiting j) e = let p : k ≡ j = cc in cc
-answer-injective (Waiting k) (Refused r) e = never (cc)
-answer-injective (Refused r) (Done c m l) e = never (cc)
-answer-injective (Refused r) (Waiting k) e = never (cc)
-answer-injective (Refused r) (Refused s) e =
-    let p : number r ≡ number s = cc in
-    ap Refused (number-injective r s p)
+answer-injective a b e =
+    sym (back a) ∙ ap answerOf (meaning-injective (foundOf a) (foundOf b) (same a ∙ e ∙ sym (same b))) ∙ back b
 
 -- how many numbers a meaning has, and the first of them
 size : {k l : List ℕ} → k ≡ l → length k ≡ length l

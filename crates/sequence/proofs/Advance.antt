@@ -25,7 +25,7 @@ use Rattle.patch.proofs.Stream.{look-either}
 use Rattle.patch.proofs.Execution.{after-append}
 use Rattle.patch.proofs.Loads.{load-cp, load-xf, load-draw}
 
--- from s to t, over a ring, with bytes that come later: of the loads left some were executed, and the rest are still to come
+-- from s to t, with t's ring and bytes that come later: of the loads left some were executed, and the rest are still to come
 pub record Advance (ring : List ℕ) (s t : State) (later : List ℕ) (left : List (List ℕ)) : Type 0 where
   pub done : List (List ℕ)
   pub still : List (List ℕ)
@@ -45,28 +45,32 @@ pub record Ahead (ring : List ℕ) (s : State) (later : List ℕ) (left : List (
   pub passes : Passes s (length ring)
   pub queue-is : queueOf ring s ++ later ≡ bytesOfCommands left
 
-module _ {ring : List ℕ} {s : State} {later : List ℕ} {left : List (List ℕ)} (a : Ahead ring s later left) where
-  pub advance-none : Advance ring s s later left
-  unfolding bpAfterAll
-  advance-none =
-      record {
-        done = [];
-        still = left;
-        split = refl;
-        loads = a .loads;
-        bp-is = refl;
-        cp-is = refl;
-        xf-is = refl;
-        closed = a .closed;
-        passes = a .passes;
-        queue-is = a .queue-is;
-      }
+-- nothing was executed
+pub advance-none : {ring : List ℕ} {s t : State} {later : List ℕ} {left : List (List ℕ)} → Ahead ring t later left
+    → t .bp ≡ s .bp → t .cp ≡ s .cp → t .xf ≡ s .xf → Advance ring s t later left
+unfolding bpAfterAll
+advance-none {left = left} a bp cp xf =
+    record {
+      done = [];
+      still = left;
+      split = refl;
+      loads = a .loads;
+      bp-is = bp;
+      cp-is = cp;
+      xf-is = xf;
+      closed = a .closed;
+      passes = a .passes;
+      queue-is = a .queue-is;
+    }
+
+pub advance-same : {ring : List ℕ} {s : State} {later : List ℕ} {left : List (List ℕ)} → Ahead ring s later left → Advance ring s s later left
+advance-same a = advance-none a refl refl refl
 
 pub advance-ahead : {ring : List ℕ} {s t : State} {later : List ℕ} {left : List (List ℕ)} (v : Advance ring s t later left) → Ahead ring t later (v .still)
 advance-ahead v = record { loads = v .loads; closed = v .closed; passes = v .passes; queue-is = v .queue-is }
 
-pub advance-then : {ring : List ℕ} {s t r : State} {later : List ℕ} {left : List (List ℕ)} (v : Advance ring s t later left) → Advance ring t r later (v .still)
-    → Advance ring s r later left
+pub advance-then : {ring ring' : List ℕ} {s t r : State} {later later' : List ℕ} {left : List (List ℕ)} (v : Advance ring s t later left)
+    → Advance ring' t r later' (v .still) → Advance ring' s r later' left
 advance-then {s = s} v u =
     record {
       done = v .done ++ u .done;
@@ -118,7 +122,7 @@ module _ {ring : List ℕ} {s : State} {later : List ℕ} {left : List (List ℕ
 
   advance-look : Advance ring s (S.after ring s (lookAt ring s)) later left
   advance-look =
-      ⊎-elim advance-unit (λ h. rw (found-is (h .1)) (advance-none a)) (look-either q later (s .cp) left (a .loads) (a .queue-is))
+      ⊎-elim advance-unit (λ h. rw (found-is (h .1)) (advance-same a)) (look-either q later (s .cp) left (a .loads) (a .queue-is))
 
   -- past the gate a step finds what the queue begins with
   step-is : stepFound ring s ≡ lookAt ring s
@@ -158,11 +162,11 @@ gone-state (refused r) s e = inr refl
 pub advance-steps : (n : ℕ) {ring : List ℕ} {s : State} {later : List ℕ} {left : List (List ℕ)} → Ahead ring s later left
     → Advance ring s (steps ring n s .state) later left
 unfolding steps
-advance-steps zero a = advance-none a
+advance-steps zero a = advance-same a
 advance-steps (suc n) {ring} {s} a =
     let v = advance-step a in
     let rest = advance-steps n (advance-ahead v) in
-    ⊎-elim (λ e. rw e (advance-then v rest)) (λ e. rw e (advance-none a)) (gone-state (stepFound ring s) s (steps ring n (stepOf ring s)))
+    ⊎-elim (λ e. rw e (advance-then v rest)) (λ e. rw e (advance-same a)) (gone-state (stepFound ring s) s (steps ring n (stepOf ring s)))
 
 pub advance-run : (limit : ℕ) {ring : List ℕ} {s : State} {later : List ℕ} {left : List (List ℕ)} → Ahead ring s later left
     → Advance ring s (runOf ring limit s .state) later left

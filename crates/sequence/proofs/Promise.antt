@@ -25,36 +25,11 @@ use Rattle.patch.specs.Stream.{IsLoad, AllLoads}
 use Rattle.patch.proofs.Stream.{five-bytes, patches-loads, patches-bytes}
 use Rattle.patch.proofs.Execution.{after-append, executed-all, merged-swap}
 use Rattle.sequence.specs.Promise.{Start, Listed, AllListed, Delivers, SameRegisters, RulesGive}
-use Rattle.sequence.proofs.Advance.{Advance, Ahead, advance-none, advance-step, advance-run}
+use Rattle.sequence.proofs.Advance.{Advance, Ahead, advance-none, advance-same, advance-ahead, advance-then, advance-step, advance-run}
 
--- from one world to another: of the loads left some were executed, and the rest come with what is pending and what comes later
-pub record Moves (w v : World) (later : List ℕ) (left : List (List ℕ)) : Type 0 where
-  pub done : List (List ℕ)
-  pub still : List (List ℕ)
-  pub split : left ≡ done ++ still
-  pub loads : AllLoads still
-  pub bp-is : v .state .bp ≡ bpAfterAll done (w .state .bp)
-  pub cp-is : v .state .cp ≡ w .state .cp
-  pub xf-is : v .state .xf ≡ w .state .xf
-  pub closed : v .state .draw ≡ Closed
-  pub passes : Passes (v .state) (length (v .ring))
-  pub queue-is : queue v ++ later ≡ bytesOfCommands still
-
-by-advance : {w : World} {t : State} {later : List ℕ} {left : List (List ℕ)} → Advance (w .ring) (w .state) t later left
-    → Moves w (record { state = t; ring = w .ring }) later left
-by-advance v =
-    record {
-      done = v .done;
-      still = v .still;
-      split = v .split;
-      loads = v .loads;
-      bp-is = v .bp-is;
-      cp-is = v .cp-is;
-      xf-is = v .xf-is;
-      closed = v .closed;
-      passes = v .passes;
-      queue-is = v .queue-is;
-    }
+-- from one world to another
+abbrev Moves : World → World → List ℕ → List (List ℕ) → Type 0
+Moves w v later left = Advance (v .ring) (w .state) (v .state) later left
 
 -- a clear changes nothing
 clear-kept : (f : Fifo) (value : ℕ) → written f 4 value ≡ f
@@ -64,50 +39,31 @@ clear-kept f value = cond-both (λ (g : Fifo). g ≡ f) (writable 4) (λ _. refl
 -- one call
 call-moves : (w : World) (c : Call) (later : List ℕ) (left : List (List ℕ)) → Listed c → Ahead (w .ring) (w .state) (fed w c ++ later) left
     → Moves w (after w c) later left
-unfolding bpAfterAll
 call-moves w (feed bytes) later left h a =
     let f = feed-longer w bytes in
     let g = f .gate-is ∙ passes-gate (w .state) (length (w .ring)) (a .passes) in
+    let b : Ahead (after w (feed bytes) .ring) (after w (feed bytes) .state) later left =
     record {
-      done = [];
-      still = left;
-      split = refl;
       loads = a .loads;
-      bp-is = refl;
-      cp-is = refl;
-      xf-is = refl;
       closed = a .closed;
       passes = gate-passes (after w (feed bytes) .state) (length (after w (feed bytes) .ring)) g;
       queue-is =
           ap (λ (x : List ℕ). x ++ later) (f .queue-is) ∙ append-assoc (queue w) (fed w (feed bytes)) later ∙ a .queue-is;
-    }
-call-moves w step later left h a = by-advance (advance-step a)
-call-moves w (run limit) later left h a = by-advance (advance-run limit a)
-call-moves w (write offset value) later left h a = rw (h, clear-kept (w .state .fifo) value) (by-advance (advance-none a))
+    } in
+    advance-none b refl refl refl
+call-moves w step later left h a = advance-step a
+call-moves w (run limit) later left h a = advance-run limit a
+call-moves w (write offset value) later left h a = rw (h, clear-kept (w .state .fifo) value) (advance-same a)
 call-moves w (read offset) later left h a = absurd h
 
 -- a list of calls
 all-moves : (cs : List Call) (w : World) (left : List (List ℕ)) → AllListed cs → Ahead (w .ring) (w .state) (fedAll w cs) left
     → Moves w (afterAll w cs) [] left
 unfolding afterAll fedAll
-all-moves [] w left h a = by-advance (advance-none a)
+all-moves [] w left h a = advance-same a
 all-moves (c ∷ cs) w left h a =
     let m : Moves w (after w c) (fedAll (after w c) cs) left = call-moves w c (fedAll (after w c) cs) left (h .0) a in
-    let b : Ahead (after w c .ring) (after w c .state) (fedAll (after w c) cs) (m .still) =
-    record { loads = m .loads; closed = m .closed; passes = m .passes; queue-is = m .queue-is } in
-    let n : Moves (after w c) (afterAll (after w c) cs) [] (m .still) = all-moves cs (after w c) (m .still) (h .1) b in
-    record {
-      done = m .done ++ n .done;
-      still = n .still;
-      split = m .split ∙ ap (λ (x : List (List ℕ)). m .done ++ x) (n .split) ∙ sym (append-assoc (m .done) (n .done) (n .still));
-      loads = n .loads;
-      bp-is = n .bp-is ∙ ap (bpAfterAll (n .done)) (m .bp-is) ∙ sym (after-append (m .done) (n .done) (w .state .bp));
-      cp-is = n .cp-is ∙ m .cp-is;
-      xf-is = n .xf-is ∙ m .xf-is;
-      closed = n .closed;
-      passes = n .passes;
-      queue-is = n .queue-is;
-    }
+    advance-then m (all-moves cs (after w c) (m .still) (h .1) (advance-ahead m))
 
 -- loads without a byte are none
 no-bytes : (cs : List (List ℕ)) → AllLoads cs → bytesOfCommands cs ≡ [] → cs ≡ []
