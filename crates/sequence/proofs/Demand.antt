@@ -1,5 +1,5 @@
 -- Demand 3, all of its parts in one theorem.
-use Rattle.patch.proofs.Algebra.{merged-assoc}
+use Rattle.patch.proofs.Algebra.{merged-assoc, merged-accepted}
 use Rattle.patch.specs.Commands.{commandsOfAll}
 use Rattle.sequence.specs.Promise.{PatchesInRow}
 use Rattle.sequence.specs.Exist.{callsOf}
@@ -11,6 +11,7 @@ patches-in-row =
     record {
       promised = promise;
       either-way = merged-assoc;
+      stays-accepted = merged-accepted;
       either-order = either-order;
       delivered = λ w st ps oks. record { calls = callsOf (commandsOfAll ps); delivers = calls-exist w st ps oks };
     }

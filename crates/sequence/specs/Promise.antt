@@ -60,10 +60,12 @@ pub record RulesGive (w : World) (p : Patch) (end : World) : Type 0 where
 
 -- Demand 3 whole: "After the list the BP, CP and XF registers are those that the rules give for one merged sheet, a later sheet's bits winning";
 -- "Grouping three accepted sheets either way merges to the same masks and numbers"; "From any one such start, A then B leaves the same BP, CP and XF
--- registers as B then A exactly when every bit that both name has the same value in both". The fourth part says that such lists of calls exist.
+-- registers as B then A exactly when every bit that both name has the same value in both". Beside these: a merge of
+-- accepted patches is accepted, and such lists of calls exist.
 pub record PatchesInRow : Type 0 where
   pub promised : (w : World) (cs : List Call) (ps : List Patch) → Start w → Delivers w cs ps → RulesGive w (mergedAll ps) (afterAll w cs)
   pub either-way : (a b c : Patch) → IsAccepted a → IsAccepted b → IsAccepted c → mergedOf (mergedOf a b) c ≡ mergedOf a (mergedOf b c)
+  pub stays-accepted : (a b : Patch) → IsAccepted a → IsAccepted b → IsAccepted (mergedOf a b)
   pub either-order : (w : World) → Start w → (a b : Patch) (cs ds : List Call) → Delivers w cs (a ∷ b ∷ []) → Delivers w ds (b ∷ a ∷ [])
       → SameRegisters (afterAll w cs) (afterAll w ds) ↔ Agree a b
   pub delivered : (w : World) → Start w → (ps : List Patch) → AllAccepted ps → SomeCalls w ps
