@@ -32,6 +32,7 @@ use Rattle.processor.specs.Step.{queueOf, lookAt, stepFound}
 use Rattle.processor.specs.Run.{runOf}
 use Rattle.history.specs.Calls.{World, feed, after}
 use Rattle.history.specs.More.{Longer, NotWaiting, SameRun}
+use Rattle.history.proofs.Bytes.{fed-octets}
 use Rattle.history.proofs.More.{step-longer, run-longer}
 
 -- ---- a feed makes the queue longer, and leaves 1 to 5
@@ -84,9 +85,9 @@ module _ (w : World) (bytes : List ℕ) where
   step-fed = step-longer feed-longer
 
   -- a run that ended by its limit or a refusal: the same answer, and the same units
-  pub run-fed : Octets (w .ring) → Octets ring' → (limit : ℕ) → NotWaiting (runOf (w .ring) limit s .stop)
+  pub run-fed : Octets (w .ring) → Octets bytes → (limit : ℕ) → NotWaiting (runOf (w .ring) limit s .stop)
       → SameRun (w .ring) (runOf (w .ring) limit s) ring' (runOf ring' limit t) (bytesAccepted (s .fifo) (w .ring) bytes)
-  run-fed o o' limit h = run-longer limit o o' feed-longer h
+  run-fed o h limit = run-longer limit o (fed-octets (s .fifo) (w .ring) bytes o h) feed-longer
 
 -- ---- "A full ring is never answered with waiting."
 unless-waiting : (r : ℕ) (x : Found) (k : ℕ) → unlessRefused r x ≡ waiting k → x ≡ waiting k

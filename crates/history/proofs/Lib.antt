@@ -1,4 +1,5 @@
 pub mod Flow
 pub mod Conserved
 pub mod More
+pub mod Bytes
 pub mod Fed
