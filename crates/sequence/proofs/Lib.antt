@@ -1,5 +1,5 @@
 pub mod Advance
 pub mod Promise
 pub mod Exist
-pub mod Demand
 pub mod Begins
+pub mod Demand

@@ -1,3 +1,3 @@
+pub mod Start
 pub mod Promise
 pub mod Exist
-pub mod Start

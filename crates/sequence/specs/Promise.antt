@@ -11,6 +11,7 @@ use Rattle.history.specs.Calls.{World, Call, feed, step, run, write, read, queu
 use Rattle.patch.specs.Patch.{Patch, bpCount, IsAccepted, AllAccepted, appliedTo, mergedOf, mergedAll}
 use Rattle.patch.specs.Registers.{Agree}
 use Rattle.patch.specs.Commands.{bytesOfPatches}
+use Rattle.sequence.specs.Start.{firstWorld}
 
 -- "Begin with nothing that document 01 refuses by 1, 2 or 3, an empty ring, no draw open, the mask at FFFFFF and reading allowed in
 -- multi-buffer mode": none of 1 to 5 applies, by the very test of a step. The number of registers is the array's type.
@@ -33,7 +34,7 @@ abbrev pub AllListed : List Call → Type 0
 AllListed [] = Unit {0}
 AllListed (c ∷ cs) = Listed c × AllListed cs
 
--- a list of calls that "feeds whole accepted sheets one after the other, in any accepted pieces, and ends with the ring empty", from a start;
+-- a list of calls that "feeds whole accepted sheets one after the other, in any accepted pieces, and ends with the ring empty";
 -- refused calls included
 pub record Delivers (w : World) (cs : List Call) (ps : List Patch) : Type 0 where
   pub listed : AllListed cs
@@ -61,11 +62,13 @@ pub record RulesGive (w : World) (p : Patch) (end : World) : Type 0 where
 -- Demand 3 whole: "After the list the BP, CP and XF registers are those that the rules give for one merged sheet, a later sheet's bits winning";
 -- "Grouping three accepted sheets either way merges to the same masks and numbers"; "From any one such start, A then B leaves the same BP, CP and XF
 -- registers as B then A exactly when every bit that both name has the same value in both". Beside these: a merge of
--- accepted patches is accepted, and such lists of calls exist.
+-- accepted patches is accepted, of two or of a list, and such starts and lists of calls exist.
 pub record PatchesInRow : Type 0 where
   pub promised : (w : World) (cs : List Call) (ps : List Patch) → Start w → Delivers w cs ps → RulesGive w (mergedAll ps) (afterAll w cs)
   pub either-way : (a b c : Patch) → IsAccepted a → IsAccepted b → IsAccepted c → mergedOf (mergedOf a b) c ≡ mergedOf a (mergedOf b c)
   pub stays-accepted : (a b : Patch) → IsAccepted a → IsAccepted b → IsAccepted (mergedOf a b)
+  pub whole-accepted : (ps : List Patch) → AllAccepted ps → IsAccepted (mergedAll ps)
   pub either-order : (w : World) → Start w → (a b : Patch) (cs ds : List Call) → Delivers w cs (a ∷ b ∷ []) → Delivers w ds (b ∷ a ∷ [])
       → SameRegisters (afterAll w cs) (afterAll w ds) ↔ Agree a b
+  pub begins : Start firstWorld
   pub delivered : (w : World) → Start w → (ps : List Patch) → AllAccepted ps → SomeCalls w ps
