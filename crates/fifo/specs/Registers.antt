@@ -68,7 +68,7 @@ readAnswer f drawing o =
 unfoldable pub withRegister : Window → ℕ → ℕ → Window
 withRegister w o v = fromWords (set (words w) (wordAt o) (withHalf (isHigh o) (getD (words w) (wordAt o) 0) v))
 
--- a writable register written: "A write to 004 is accepted and changes nothing. .. Control [002] keeps its low 6 bits."
+-- a writable register written: "Control keeps its low 6 bits. .. A write to 004 is accepted and changes nothing. Marks are stored only."
 unfoldable pub stored : Fifo → ℕ → ℕ → Fifo
 stored f o v = cond (eqb o 4) f (cond (ltb o 0x20) (withControl f (v % 64)) (withWindow f (withRegister (f .window) o v)))
 

@@ -63,7 +63,7 @@ IsAccepted p = faultOf p ≡ 0
 
 -- ---- what it means
 
--- "What the rules give for a sheet: BP register r is the start's outside mask r, number r inside."
+-- "What the rules give for a sheet: BP register r is the start's outside mask r, number r inside .."
 unfoldable pub appliedTo : List ℕ → Patch → List ℕ
 appliedTo bp p = upTo (λ r. masked (getD bp r 0) (maskAt p r) (numberAt p r)) bpCount
 
