@@ -4,9 +4,6 @@ use native.Mathlib.Omega.{arith}
 use Rattle.refusal.specs.Number.{number}
 use Rattle.refusal.proofs.Positive.{number-some}
 use Rattle.refusal.proofs.Injective.{number-injective}
-use Rattle.writer.specs.declared.Written.{Written}
-use Rattle.writer.specs.declared.Written.the-variants as written
-use Rattle.writer.specs.Write as writer
 use Rattle.patch.specs.declared.Checked.{Checked}
 use Rattle.patch.specs.declared.Checked.the-variants.{Accepted, Refused}
 use Rattle.patch.specs.Answers.{meaning}
@@ -16,10 +13,3 @@ meaning-injective Accepted Accepted e = refl
 meaning-injective Accepted (Refused r) e = absurd (omega (arith, number-some r))
 meaning-injective (Refused r) Accepted e = absurd (omega (arith, number-some r))
 meaning-injective (Refused r) (Refused s) e = ap Refused (number-injective r s e)
-
-pub written-injective : (a b : Written) → writer.meaning a ≡ writer.meaning b → a ≡ b
-written-injective (written.Bytes m) (written.Bytes n) e = let q : m ≡ n = cc in ap written.Bytes q
-written-injective (written.Bytes m) (written.Refused r) e = cc
-written-injective (written.Refused r) (written.Bytes n) e = cc
-written-injective (written.Refused r) (written.Refused s) e =
-    let q : number r ≡ number s = cc in ap written.Refused (number-injective r s q)
