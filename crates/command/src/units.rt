@@ -122,8 +122,8 @@ pub fn descriptor(cp: &[u32; 60], format: u8) -> Descriptor
 pub fn look_head(op: u8, b: [u8; 9], count: u32, cp: &[u32; 60]) -> Next
     ensures { λ r. ⌜ meaning r ≡ lookHead op b count (now (cp .entry)) ⌝ }
 {
-    let laid = layout::lay_out(descriptor(cp, op % 8));
-    let answer = laid.answer;
+    let measured = layout::measure(descriptor(cp, op % 8));
+    let answer = measured.answer;
     match answer {
         LayoutAnswer::Refused(reason) => Next::Refused(reason),
         LayoutAnswer::Accepted => {
@@ -141,9 +141,9 @@ pub fn look_head(op: u8, b: [u8; 9], count: u32, cp: &[u32; 60]) -> Next
 pub fn look_vertex(count: u32, cp: &[u32; 60], format: u8) -> Next
     ensures { λ r. ⌜ meaning r ≡ lookVertex count (now (cp .entry)) format ⌝ }
 {
-    let laid = layout::lay_out(descriptor(cp, format));
-    let answer = laid.answer;
-    let length = laid.length;
+    let measured = layout::measure(descriptor(cp, format));
+    let answer = measured.answer;
+    let length = measured.length;
     match answer {
         LayoutAnswer::Refused(reason) => Next::Refused(reason),
         LayoutAnswer::Accepted => unit(count, length, Command::Vertex, 0),

@@ -20,7 +20,7 @@ use Rattle.layout.specs.Sizes.{sizeOf, offsetOf, unknownAt, anyUnknown}
 use Rattle.layout.specs.Answers.{refusalOf, lengthOf, Laid}
 
 -- bits below t do not depend on what stands from bit t on
-low-bits : (x t s w : ℕ) → s + w ≤ t → x % 2 ^ t / 2 ^ s % 2 ^ w ≡ x / 2 ^ s % 2 ^ w
+pub low-bits : (x t s w : ℕ) → s + w ≤ t → x % 2 ^ t / 2 ^ s % 2 ^ w ≡ x / 2 ^ s % 2 ^ w
 low-bits x t s w h =
     let e : t ≡ t - s - w + w + s = omega arith in
     ap (λ (y : ℕ). x % 2 ^ y / 2 ^ s % 2 ^ w) e
@@ -30,7 +30,7 @@ low-bits x t s w h =
 same-low : (x y t s w : ℕ) → x % 2 ^ t ≡ y % 2 ^ t → s + w ≤ t → x / 2 ^ s % 2 ^ w ≡ y / 2 ^ s % 2 ^ w
 same-low x y t s w e h = sym (low-bits x t s w h) ∙ ap (λ (z : ℕ). z / 2 ^ s % 2 ^ w) e ∙ low-bits y t s w h
 
-is-true : (b : Bool) → T b → b ≡ true
+pub is-true : (b : Bool) → T b → b ≡ true
 is-true true t = refl
 is-true false t = absurd t
 

@@ -2,3 +2,4 @@ pub mod Tests
 pub mod Bounds
 pub mod Meanings
 pub mod Ignored
+pub mod Present

@@ -1,9 +1,10 @@
 -- A layout's answer is known from its meaning; and what the records of a filled and of an emptied layout say of the whole.
 use mathlib.Core.Path.{_≡_, refl, sym, ap, _∙_}
-use mathlib.Core.Bool.{Bool, cond}
+use mathlib.Core.Bool.{Bool, true, false, cond}
 use mathlib.Core.List.{List, [], _∷_}
 use Prim.Native.Nat.{ℕ}
 use native.Mathlib.Omega.{arith}
+use lib.Dec.{eqb}
 use lib.ListN.{getD}
 use borrow.Author.Tests.{eq-eqb, ne-eqb}
 use Rattle.refusal.specs.Number.{number}
@@ -12,20 +13,27 @@ use Rattle.refusal.proofs.Injective.{number-injective}
 use Rattle.refusal.proofs.Positive.{number-some}
 use Rattle.layout.specs.declared.Descriptor.{Descriptor}
 use Rattle.layout.specs.declared.Layout.{Layout}
+use Rattle.layout.specs.declared.Extent.{Extent}
+use Rattle.layout.specs.declared.Sums.{Sums}
 use Rattle.layout.specs.declared.LayoutAnswer.{LayoutAnswer}
 use Rattle.layout.specs.declared.LayoutAnswer.the-variants.{Accepted, Refused}
 use Rattle.layout.specs.Fields.{modeOf}
-use Rattle.layout.specs.Sizes.{anyUnknown}
-use Rattle.layout.specs.Answers.{meaning, refusalOf, lengthOf, Laid, Filled, Emptied}
+use Rattle.layout.specs.Answers.{meaning, refusalOf, lengthOf, Laid, Filled, Emptied, Measured, MeasuredAs, Tallied}
 
--- ---- which refusal it is
-pub refused-position : (d : Descriptor) → modeOf d 9 ≡ 0 → refusalOf d ≡ 9
-unfolding refusalOf
-refused-position d e = rw (eq-eqb (modeOf d 9) 0 e)
+-- ---- a length alone
+length-by : (a b : Bool) (n : ℕ) → cond a 0 (cond b 0 n) ≡ cond (eqb (cond a 9 (cond b 10 0)) 0) n 0
+length-by true b n = refl
+length-by false true n = refl
+length-by false false n = refl
 
-pub refused-by : (d : Descriptor) (b : Bool) → (modeOf d 9 ≡ 0 → ⊥) → anyUnknown d 21 ≡ b → refusalOf d ≡ cond b 10 0
-unfolding refusalOf
-refused-by d b h e = rw (ne-eqb (modeOf d 9) 0 h, e)
+pub measured : (d : Descriptor) (mode : ℕ) (s : Sums) (r : Extent) → mode ≡ modeOf d 9 → Tallied d s
+    → MeasuredAs (cond (eqb mode 0) 9 (cond (s .unknown) 10 0)) (cond (eqb mode 0) 0 (cond (s .unknown) 0 (s .total))) r → Measured d r
+unfolding refusalOf lengthOf
+measured d mode s r m t e =
+    record {
+      answer-is = rw (m, t .unknown-is) at (e .answer-is);
+      length-is = rw (m, t .unknown-is, t .total-is, length-by) at (e .length-is);
+    }
 
 -- ---- the whole layout
 pub laid-filled : (d : Descriptor) (r : Layout) → refusalOf d ≡ 0 → Filled d r → Laid d r

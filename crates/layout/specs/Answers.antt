@@ -11,6 +11,8 @@ use Rattle.refusal.specs.declared.Reason.{Reason}
 use Rattle.layout.specs.declared.Descriptor.{Descriptor}
 use Rattle.layout.specs.declared.Layout.{Layout}
 use Rattle.layout.specs.declared.LayoutAnswer.{LayoutAnswer}
+use Rattle.layout.specs.declared.Extent.{Extent}
+use Rattle.layout.specs.declared.Sums.{Sums}
 use Rattle.layout.specs.declared.LayoutAnswer.the-variants.{Accepted, Refused}
 use Rattle.layout.specs.Fields.{modeOf}
 use Rattle.layout.specs.Sizes.{sizeOf, offsetOf, anyUnknown}
@@ -52,3 +54,17 @@ abbrev pub Laid : Descriptor → Layout → Type 0
 Laid d r =
     LaidAs (refusalOf d) (lengthOf d) (cond (acceptedOf d) (upTo (sizeOf d) 21) (replicate 21 0))
     (cond (acceptedOf d) (upTo (offsetOf d) 21) (replicate 21 0)) r
+
+-- a length alone, by its two parts
+pub record MeasuredAs (refusal length : ℕ) (r : Extent) : Type 0 where
+  pub answer-is : meaning (r .answer) ≡ refusal ∷ []
+  pub length-is : r .length ≡ length
+
+-- what `measure` promises: the answer and the length of the layout
+abbrev pub Measured : Descriptor → Extent → Type 0
+Measured d r = MeasuredAs (refusalOf d) (lengthOf d) r
+
+-- the bytes of all attributes, and whether one is in an unknown format
+pub record Tallied (d : Descriptor) (r : Sums) : Type 0 where
+  pub total-is : r .total ≡ offsetOf d 21
+  pub unknown-is : r .unknown ≡ anyUnknown d 21

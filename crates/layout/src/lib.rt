@@ -4,11 +4,13 @@ mod places;
 
 use refusal::Reason;
 ghost use mathlib.Core.Path.{_≡_};
+ghost use mathlib.Core.Bool.{cond};
+ghost use Rattle.refusal.specs.Number.{number};
 ghost use Prim.Native.Nat.{ℕ, _<_, _≤_};
 ghost use lib.ListN.{getD};
 ghost use Rattle.layout.specs.Fields.{words, bitsAt, modeOf, countOf, formatOf, fractionBits, fractionOf, indicesOf, fieldOf};
-ghost use Rattle.layout.specs.Sizes.{isColour, colourWidth, componentsOf, directOf, sizeOf, unknownAt, anyUnknown};
-ghost use Rattle.layout.specs.Answers.{Laid, Filled, Emptied};
+ghost use Rattle.layout.specs.Sizes.{isColour, colourWidth, componentsOf, directOf, sizeOf, unknownAt, NoneBefore, NoneFrom};
+ghost use Rattle.layout.specs.Answers.{Laid, Filled, Emptied, Measured, MeasuredAs, Tallied};
 
 // What names a vertex's attributes and their formats: the two words of the VCD, and the three of the VAT in use.
 pub struct Descriptor {
@@ -39,6 +41,18 @@ pub struct Layout {
     pub length: u32,
     pub sizes: [u8; 21],
     pub offsets: [u8; 21],
+}
+
+// The length of a vertex alone. A refused one is 0.
+pub struct Extent {
+    pub answer: LayoutAnswer,
+    pub length: u32,
+}
+
+// The bytes of all attributes, and whether one is present in a format that is none.
+struct Sums {
+    total: u32,
+    unknown: bool,
 }
 
 // The word of a number, 0 where there is none.
@@ -212,16 +226,74 @@ fn unknown(d: Descriptor, k: usize) -> bool
     if is_colour(k) { 6 <= f } else { 5 <= f }
 }
 
-fn any_unknown(d: Descriptor) -> bool
-    ensures { λ r. ⌜ r ≡ anyUnknown d 21 ⌝ }
+// The first attribute to look at: no matrix is present where the nine bits are clear.
+fn first_present(d: Descriptor) -> usize
+    ensures { λ r. ⌜ NoneBefore d r ⌝ }
 {
+    if d.vcd0 % 512 == 0 { 9 } else { 0 }
+}
+
+// The attribute past the last to look at: no texture is present where the sixteen bits are clear.
+fn past_present(d: Descriptor) -> usize
+    ensures { λ r. ⌜ NoneFrom d r ⌝ }
+{
+    if d.vcd1 % 0x10000 == 0 { 13 } else { 21 }
+}
+
+// The bytes of all attributes, and whether one is present in a format that is none.
+fn tally(d: Descriptor) -> Sums
+    ensures { λ r. ⌜ Tallied d r ⌝ }
+{
+    let end = past_present(d);
+    let mut total: u32 = 0;
     let mut found = false;
-    let mut i: usize = 0;
-    while i < 21 {
-        found = found | unknown(d, i);
-        i += 1;
+    let mut k = first_present(d);
+    while k < end {
+        total += size(d, k);
+        found = found | unknown(d, k);
+        k += 1;
     }
-    found
+    Sums {
+        total,
+        unknown: found,
+    }
+}
+
+// The length, unless the one refusal applies, or else the other.
+fn length_unless(absent: bool, first: Reason, unknown: bool, second: Reason, length: u32) -> Extent
+    ensures { λ r. ⌜ MeasuredAs (cond absent (number first) (cond unknown (number second) 0)) (cond absent 0 (cond unknown 0 length)) r ⌝ }
+{
+    if absent {
+        return Extent {
+            answer: LayoutAnswer::Refused(first),
+            length: 0,
+        };
+    }
+    if unknown {
+        return Extent {
+            answer: LayoutAnswer::Refused(second),
+            length: 0,
+        };
+    }
+    Extent {
+        answer: LayoutAnswer::Accepted,
+        length,
+    }
+}
+
+// The length of a vertex, or the reason why it has none: 9, then 10.
+pub fn measure(d: Descriptor) -> Extent
+    ensures { λ r. ⌜ Measured d r ⌝ }
+{
+    let tally = tally(d);
+    let absent = mode(d, 9) == 0;
+    length_unless(
+        absent,
+        Reason::PositionAbsent,
+        tally.unknown,
+        Reason::UnknownFormat,
+        tally.total,
+    )
 }
 
 // The layout of a descriptor that is not refused.
@@ -258,15 +330,14 @@ fn refuse(reason: Reason) -> Layout
     }
 }
 
-// The layout that a descriptor gives, or the reason why there is none: 9, then 10.
+// The layout that a descriptor gives, or the reason why there is none.
 pub fn lay_out(d: Descriptor) -> Layout
     ensures { λ r. ⌜ Laid d r ⌝ }
 {
-    if mode(d, 9) == 0 {
-        return refuse(Reason::PositionAbsent);
+    let measured = measure(d);
+    let answer = measured.answer;
+    match answer {
+        LayoutAnswer::Refused(reason) => refuse(reason),
+        LayoutAnswer::Accepted => fill(d),
     }
-    if any_unknown(d) {
-        return refuse(Reason::UnknownFormat);
-    }
-    fill(d)
 }

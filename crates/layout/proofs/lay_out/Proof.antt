@@ -1,62 +1,54 @@
--- 9, then 10, then the filled layout: the tests are those of the definition, in its order.
-use mathlib.Core.Path.{_≡_, sym, _∙_}
-use mathlib.Core.Bool.{Bool, true, false, cond}
-use Rattle.refusal.specs.declared.Reason.the-variants.{PositionAbsent, UnknownFormat}
-use Rattle.layout.specs.Answers.{refusalOf}
-use Rattle.layout.proofs.Meanings.{refused-position, refused-by, laid-filled, laid-emptied}
+-- Refused for the reason that the measure has, and else filled.
+use mathlib.Core.Path.{_≡_, sym, ap}
+use mathlib.Core.List.{List}
+use Prim.Native.Nat.{ℕ}
+use lib.ListN.{getD}
 use borrow.Author.Needs.{needs}
+use Rattle.layout.proofs.Meanings.{laid-filled, laid-emptied}
 use Rattle.layout.proofs.lay_out.Statement.{statement}
 use Rattle.layout.proofs.lay_out.Tie as tie
 
--- with a position the formats decide
-present : (c : tie.After-any-unknown) (b : Bool) → c .any-unknown .result ≡ b
-    → refusalOf (c .before .before .before .args .d) ≡ cond b 10 0
-present c b e =
-    let at = c .before .before in
-    refused-by (at .before .args .d) b (λ z. c .before .if1 .left (at .mode .ensures ∙ z)) (sym (c .any-unknown .ensures) ∙ e)
+-- the first number of two equal lists
+first : {k l : List ℕ} → k ≡ l → getD l 0 0 ≡ getD k 0 0
+first e = sym (ap (λ (x : List ℕ). getD x 0 0) e)
 
-mode-requires : tie.Need-mode-requires
-mode-requires c κs = search needs
+measure-requires : tie.Need-measure-requires
+measure-requires c κs = search needs
+
+enum-known-answer : tie.Need-enum-known-answer
+enum-known-answer c = search needs
 
 refuse-requires : tie.Need-refuse-requires
 refuse-requires c κs = search needs
 
-returns : tie.Need-returns
-returns c =
-    let at = c .before .before in
-    let d = at .before .args .d in
-    laid-emptied d PositionAbsent (c .refuse .result) (refused-position d (sym (at .mode .ensures) ∙ c .before .if1 .taken))
-    (c .refuse .ensures)
-
-any-unknown-requires : tie.Need-any-unknown-requires
-any-unknown-requires c κs = search needs
-
-refuse-requires-2 : tie.Need-refuse-requires-2
-refuse-requires-2 c κs = search needs
-
-returns-2 : tie.Need-returns-2
-returns-2 c =
-    let at = c .before .before in
-    laid-emptied (at .before .before .before .args .d) UnknownFormat (c .refuse2 .result) (present at true (c .before .if2 .taken))
-    (c .refuse2 .ensures)
+enum-told : tie.Need-enum-told
+enum-told c = search needs
 
 fill-requires : tie.Need-fill-requires
 fill-requires c κs = search needs
 
-returns-3 : tie.Need-returns-3
-returns-3 c =
-    let at = c .before .before in
-    laid-filled (at .before .before .before .args .d) (c .fill .result) (present at false (c .before .if2 .left)) (c .fill .ensures)
+returns : tie.Need-returns
+returns c =
+    let known = c .before in
+    let m = known .before .before .before in
+    laid-emptied (m .before .args .d) (known .before .answer .given .0 .0) (c .refuse .result)
+    (first (rw (known .before .answer .given .1) at (m .measure .ensures .answer-is))) (c .refuse .ensures)
+
+returns-2 : tie.Need-returns-2
+returns-2 c =
+    let told = c .before in
+    let m = told .before .before in
+    laid-filled (m .before .args .d) (c .fill .result)
+    (first (rw (told .enum-told .given .1) at (m .measure .ensures .answer-is))) (c .fill .ensures)
 
 pub lay-out-spec : {M : Type 1} → statement M
 lay-out-spec =
     tie.close
     (tie.spec
-    mode-requires
+    measure-requires
+    enum-known-answer
     refuse-requires
-    returns
-    any-unknown-requires
-    refuse-requires-2
-    returns-2
+    enum-told
     fill-requires
-    returns-3)
+    returns
+    returns-2)

@@ -1,5 +1,5 @@
 -- `command::units::look_head` meets its contract:
--- the layout's answer is the definition's refusal, and the count stands big-endian after the opcode.
+-- the measure's answer is the definition's refusal, and the count stands big-endian after the opcode.
 use borrow.Author.Needs.{needs}
 use Rattle.command.proofs.Refusals.{unless-refused, unless-accepted}
 use Rattle.command.specs.Look.{lookHead}
@@ -11,8 +11,8 @@ use Rattle.command.proofs.units.look_head.Tie as tie
 descriptor-requires : tie.Need-descriptor-requires
 descriptor-requires c κs = search needs
 
-lay-out-requires : tie.Need-lay-out-requires
-lay-out-requires c κs = search needs
+measure-requires : tie.Need-measure-requires
+measure-requires c κs = search needs
 
 enum-known-answer : tie.Need-enum-known-answer
 enum-known-answer c = search needs
@@ -35,24 +35,24 @@ unit-requires c κs = search needs
 returns : tie.Need-returns
 unfolding lookHead
 returns c =
-    let laid = c .before .before .before in
-    rw (← laid .before .descriptor .ensures)
-    (unless-refused (c .before .answer .given .0 .0) _ _ (rw (c .before .answer .given .1) at (laid .lay-out .ensures .answer-is)))
+    let at = c .before .before .before in
+    rw (← at .before .descriptor .ensures)
+    (unless-refused (c .before .answer .given .0 .0) _ _ (rw (c .before .answer .given .1) at (at .measure .ensures .answer-is)))
 
 returns-2 : tie.Need-returns-2
 unfolding lookHead
 returns-2 c =
     let told = c .before .before in
-    let laid = told .before .before in
-    rw (← laid .before .descriptor .ensures, two-bytes _ 1, ← c .before .half .ensures)
-    (c .unit .ensures ∙ unless-accepted _ _ (rw (told .enum-told .given .1) at (laid .lay-out .ensures .answer-is)))
+    let at = told .before .before in
+    rw (← at .before .descriptor .ensures, two-bytes _ 1, ← c .before .half .ensures)
+    (c .unit .ensures ∙ unless-accepted _ _ (rw (told .enum-told .given .1) at (at .measure .ensures .answer-is)))
 
 pub look-head-spec : {M : Type 1} → statement M
 look-head-spec =
     tie.close
     (tie.spec
     descriptor-requires
-    lay-out-requires
+    measure-requires
     enum-known-answer
     enum-told
     array-read-half

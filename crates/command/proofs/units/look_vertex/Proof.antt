@@ -9,8 +9,8 @@ use Rattle.command.proofs.units.look_vertex.Tie as tie
 descriptor-requires : tie.Need-descriptor-requires
 descriptor-requires c κs = search needs
 
-lay-out-requires : tie.Need-lay-out-requires
-lay-out-requires c κs = search needs
+measure-requires : tie.Need-measure-requires
+measure-requires c κs = search needs
 
 enum-known-answer : tie.Need-enum-known-answer
 enum-known-answer c = search needs
@@ -24,24 +24,24 @@ unit-requires c κs = search needs
 returns : tie.Need-returns
 unfolding lookVertex
 returns c =
-    let laid = c .before .before .before in
-    rw (← laid .before .descriptor .ensures)
-    (unless-refused (c .before .answer .given .0 .0) _ _ (rw (c .before .answer .given .1) at (laid .lay-out .ensures .answer-is)))
+    let at = c .before .before .before in
+    rw (← at .before .descriptor .ensures)
+    (unless-refused (c .before .answer .given .0 .0) _ _ (rw (c .before .answer .given .1) at (at .measure .ensures .answer-is)))
 
 returns-2 : tie.Need-returns-2
 unfolding lookVertex
 returns-2 c =
     let told = c .before in
-    let laid = told .before .before in
-    rw (← laid .before .descriptor .ensures, ← laid .lay-out .ensures .length-is)
-    (c .unit .ensures ∙ unless-accepted _ _ (rw (told .enum-told .given .1) at (laid .lay-out .ensures .answer-is)))
+    let at = told .before .before in
+    rw (← at .before .descriptor .ensures, ← at .measure .ensures .length-is)
+    (c .unit .ensures ∙ unless-accepted _ _ (rw (told .enum-told .given .1) at (at .measure .ensures .answer-is)))
 
 pub look-vertex-spec : {M : Type 1} → statement M
 look-vertex-spec =
     tie.close
     (tie.spec
     descriptor-requires
-    lay-out-requires
+    measure-requires
     enum-known-answer
     enum-told
     unit-requires
