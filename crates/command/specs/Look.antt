@@ -83,9 +83,13 @@ unfoldable pub lookHead : ℕ → List ℕ → ℕ → List ℕ → Found
 lookHead op b n cp =
     unlessRefused (refusalOf (descriptorOf cp (op % 8))) (whole n 3 (drawHead (op / 8 % 8) (op % 8) (bigEndian b 1 2)) 0)
 
+-- the bytes of a vertex of a format, 0 where its layout is refused
+abbrev pub vertexBytes : List ℕ → ℕ → ℕ
+vertexBytes cp format = lengthOf (descriptorOf cp format)
+
 -- "each of n vertices is one unit"; in an open draw 9 and 10 need no byte
 unfoldable pub lookVertex : ℕ → List ℕ → ℕ → Found
-lookVertex n cp format = unlessRefused (refusalOf (descriptorOf cp format)) (whole n (lengthOf (descriptorOf cp format)) vertex 0)
+lookVertex n cp format = unlessRefused (refusalOf (descriptorOf cp format)) (whole n (vertexBytes cp format) vertex 0)
 
 -- the opcodes of the indexed loads, and of the draws
 abbrev pub isIndexed : ℕ → Bool

@@ -3,6 +3,7 @@ pub mod places;
 mod units;
 
 use refusal::Reason;
+pub use units::vertex_bytes;
 ghost use mathlib.Core.Path.{_≡_};
 ghost use Rattle.command.specs.Command.{meaning};
 ghost use Rattle.command.specs.Look.{lookOf};

@@ -90,7 +90,7 @@ pub fn copy_vertex(buffer: &mut [u8], bytes: &[u8])
 }
 
 // A draw with that many vertices left, none where there are none.
-fn draw_of(primitive: u8, format: u8, count: u16) -> Draw
+pub fn draw_of(primitive: u8, format: u8, count: u16) -> Draw
     ensures { λ r. ⌜ r ≡ openedBy primitive format count ⌝ }
 {
     if count == 0 {

@@ -83,7 +83,7 @@ ends-after ring (waiting k) out h = refl
 ends-after ring (refused r) out h = refl
 
 module _ (ring : List ℕ) (o : Octets ring) where
-  unit-step : (k : ℕ) (h : State) → Passes h (length ring) → (c : List ℕ) (m n : ℕ) → lookAt ring h ≡ unit c m n
+  pub unit-step : (k : ℕ) (h : State) → Passes h (length ring) → (c : List ℕ) (m n : ℕ) → lookAt ring h ≡ unit c m n
       → steps ring (suc k) h ≡ goneOn (unit c m n) h (steps ring k (executed ring h c n))
   unfolding steps
   unit-step k h p c m n e =

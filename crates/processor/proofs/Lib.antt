@@ -7,5 +7,7 @@ pub mod Stays
 pub mod Valid
 pub mod Stepping
 pub mod Course
+pub mod Ahead
+pub mod Wholes
 pub mod Runs
 pub mod Meanings

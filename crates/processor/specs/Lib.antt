@@ -2,4 +2,5 @@ pub mod State
 pub mod Gate
 pub mod Step
 pub mod Cursor
+pub mod Vertices
 pub mod Run

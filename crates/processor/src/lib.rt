@@ -2,6 +2,7 @@
 mod running;
 mod taking;
 mod tests;
+mod vertices;
 
 use command::Command;
 use command::Draw;

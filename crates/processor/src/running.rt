@@ -2,6 +2,7 @@
 use crate::StepAnswer;
 use crate::Stop;
 use crate::taking;
+use crate::vertices;
 use command::Draw;
 use fifo::Fifo;
 ghost use mathlib.Core.Path.{_≡_};
@@ -41,7 +42,8 @@ fn stop_for(answer: StepAnswer) -> Stop
 }
 
 // Takes units off the queue of a state that has passed 1 to 5: "A run stops at its limit, at waiting or at a refusal, the limit tested first".
-pub fn take_units(
+// After each unit the whole vertices of a draw that it leaves open are taken in one move.
+pub(crate) fn take_units(
     fifo: Fifo,
     ring: &[u8],
     cp: &mut [u32; 60],
@@ -68,9 +70,13 @@ pub fn take_units(
                 stop: stop_for(answer),
             };
         };
-        cursor = moved.cursor;
-        draw = moved.draw;
         units += 1;
+        let next = moved.cursor;
+        let open = moved.draw;
+        let batch = vertices::take_vertices(next, ring, cp, open, buffer, limit - units);
+        cursor = batch.cursor;
+        draw = batch.draw;
+        units += batch.units;
     }
     Course {
         fifo: fifo::close(fifo, cursor),

@@ -2,12 +2,13 @@
 use mathlib.Core.Path.{_≡_, refl, sym, ap, _∙_}
 use mathlib.Core.Logic.{_⊎_, inl, inr}
 use mathlib.Core.List.{List}
-use Prim.Native.Nat.{ℕ, _-_}
+use Prim.Native.Nat.{ℕ, _+_, _-_, _≤_}
 use native.Mathlib.Omega.{arith}
 use denote.Enum.Declared.{tagOf}
 use borrow.Author.Needs.{needs}
 use lib.ListN.{length}
 use Rattle.processor.proofs.Course.{Course, hereOf, course-begins, course-goes, course-stops, course-ends}
+use Rattle.processor.proofs.Wholes.{takes-most, course-vertices}
 use Rattle.processor.proofs.Bridge.{takes-opened}
 use Rattle.processor.proofs.StepAnswer as Answers
 use Rattle.processor.specs.Run.{entryOf}
@@ -43,6 +44,14 @@ start-of l = l .before .before .before .before .before
 abbrev here-of : tie.At-loop Inv-loop μ-loop → State
 here-of l =
     hereOf (start-of l .args .fifo) (l .loop .inv .1 .1 .consumed) (l .loop .cp) (l .loop .bp) (l .loop .draw) (l .loop .xf) (l .loop .buffer)
+
+-- the unit of a turn whose vertices were taken
+abbrev take-of : tie.After-take-vertices Inv-loop μ-loop → tie.After-take Inv-loop μ-loop
+take-of v = v .before .before .before .before .before .before .before .before .before .before
+
+-- the vertices were no more than the limit allows
+few : (v : tie.After-take-vertices Inv-loop μ-loop) → v .take-vertices .result .units ≤ start-of (loop-of (take-of v)) .args .limit - (loop-of (take-of v) .loop .units + 1)
+few v = takes-most (take-of v .take .result .draw) (v .take-vertices .ensures)
 
 octets : (l : tie.At-loop Inv-loop μ-loop) → Octets (start-of l .args .ring .now)
 octets l k = l .before .before .before .before .shared-slice-known .given k .fits
@@ -87,19 +96,34 @@ returns c =
 add-units : tie.Need-add-units Inv-loop μ-loop
 add-units c = search needs
 
+sub-take-vertices : tie.Need-sub-take-vertices Inv-loop μ-loop
+sub-take-vertices c = search needs
+
+take-vertices-requires : tie.Need-take-vertices-requires Inv-loop μ-loop
+take-vertices-requires c κs = search needs
+
+add-units-2 : tie.Need-add-units-2 Inv-loop μ-loop
+add-units-2 c =
+    let v = c .before .before .before .before in
+    let t = take-of v in
+    omega (arith, few v, start-of (loop-of t) .fits .limit, t .before .before .before .before .before .loop-test .taken)
+
 loop-less : tie.Need-loop-less Inv-loop μ-loop
-loop-less c = search needs
+loop-less c = omega (arith, few (c .before .before .before .before))
 
 loop-again : tie.Need-loop-again Inv-loop μ-loop
 loop-again c = (
-  search needs,
+  search (needs, loop-of (take-of (c .before .before .before .before)) .loop .inv .0),
   (
-    search needs,
-    let t = c .before .before .before .before .before .before .before in
+    search (needs, loop-of (take-of (c .before .before .before .before)) .loop .inv .1 .0),
+    let v = c .before .before .before .before in
+        let t = take-of v in
         let l = loop-of t in
         let at = l .loop .inv .1 .1 in
-        course-goes _ (octets l) at (t .before .before .before .before .before .loop-test .taken)
-        (takes-opened _ (here-of l) (at .passes .ready) (at .cursor-is) (t .take .ensures)) _ _ _ (ap meaning (c .before .enum-told .given .1)),
+        course-vertices _ (octets l) (t .take .result .draw) (v .take-vertices .result .units)
+        (course-goes _ (octets l) at (t .before .before .before .before .before .loop-test .taken)
+        (takes-opened _ (here-of l) (at .passes .ready) (at .cursor-is) (t .take .ensures)) _ _ _ (ap meaning (v .before .before .before .before .enum-told .given .1)))
+        (v .take-vertices .ensures),
   ),
 )
 
@@ -134,6 +158,9 @@ take-units-spec =
     same-length-2
     returns
     add-units
+    sub-take-vertices
+    take-vertices-requires
+    add-units-2
     loop-less
     loop-again
     close-requires-2

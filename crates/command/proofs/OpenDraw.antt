@@ -1,0 +1,32 @@
+-- In an open draw a whole vertex is the next unit.
+use mathlib.Core.Path.{_≡_, refl}
+use mathlib.Core.Bool.{Bool, true, false, cond}
+use mathlib.Core.List.{List}
+use Prim.Native.Nat.{ℕ, _≤_}
+use native.Mathlib.Omega.{arith}
+use lib.Dec.{eqb}
+use borrow.Author.Tests.{eqb-true, le-ltb}
+use Rattle.layout.specs.declared.Descriptor.{Descriptor}
+use Rattle.layout.specs.Sizes.{offsetOf}
+use Rattle.layout.specs.Answers.{refusalOf, lengthOf}
+use Rattle.layout.proofs.Bounds.{length-le}
+use Rattle.command.specs.declared.Draw.the-variants.{Open}
+use Rattle.command.specs.Command.{unit, vertex}
+use Rattle.command.specs.Look.{descriptorOf, vertexBytes, lookOf, lookVertex, whole}
+
+-- a length is that of an accepted layout
+accepted : (d : Descriptor) → 1 ≤ lengthOf d → refusalOf d ≡ 0
+unfolding lengthOf
+accepted d h = go (eqb (refusalOf d) 0) refl (offsetOf d 21) h
+  where
+    go : (b : Bool) → eqb (refusalOf d) 0 ≡ b → (n : ℕ) → 1 ≤ cond b n 0 → refusalOf d ≡ 0
+    go true e n h = eqb-true (refusalOf d) 0 e
+    go false e n h = absurd (omega (arith, h))
+
+pub bytes-most : (cp : List ℕ) (format : ℕ) → vertexBytes cp format ≤ 129
+bytes-most cp format = length-le (descriptorOf cp format)
+
+pub looks-vertex : (b : List ℕ) (n : ℕ) (cp : List ℕ) (p f left : ℕ) → 1 ≤ vertexBytes cp f → vertexBytes cp f ≤ n
+    → lookOf b n cp (Open p f left) ≡ unit vertex 0 (vertexBytes cp f)
+unfolding lookOf lookVertex whole
+looks-vertex b n cp p f left h l = rw (accepted (descriptorOf cp f) h, le-ltb n (vertexBytes cp f) l)
