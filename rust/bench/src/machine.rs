@@ -1,0 +1,273 @@
+//! The two implementations behind one trait, each with the memory it is lent.
+
+use crate::proved::{self, StateWords, STATE_WORDS};
+use model::{Answer, Command, End, Memory, Refusal, State, XF_WORDS};
+
+pub const RING: usize = 65_536;
+const VERTEX: usize = 129;
+/// The answer number of waiting.
+pub const WAITING: u32 = 255;
+
+/// Ring, XF words and vertex buffer. Aligned, so that neither implementation
+/// has the luckier places.
+#[derive(Clone, PartialEq, Eq)]
+#[repr(C, align(4096))]
+pub struct Lent {
+    pub ring: [u8; RING],
+    pub xf: [u32; XF_WORDS],
+    pub vertex: [u8; VERTEX],
+}
+
+impl Lent {
+    fn new() -> Box<Lent> {
+        Box::new(Lent {
+            ring: [0xCC; RING],
+            xf: [0xAAAA_AAAA; XF_WORDS],
+            vertex: [0x55; VERTEX],
+        })
+    }
+}
+
+/// An implementation at work. Answers are the library's numbers: 0, 255 for
+/// waiting, or a refusal's.
+pub trait Machine {
+    /// A step's answer in the implementation's own form.
+    type Step;
+
+    fn fresh() -> Self;
+    fn read_register(&self, offset: u16) -> [u32; 2];
+    fn write_register(&mut self, offset: u16, value: u16) -> u32;
+    fn feed(&mut self, bytes: &[u8]) -> u32;
+    fn step(&mut self) -> Self::Step;
+    /// The answer number and the library's six numbers, for a step that took
+    /// so many bytes off the ring.
+    fn step_words(step: &Self::Step, bytes: u32) -> [u32; 7];
+    /// The answer number, units done, bytes lacking.
+    fn run(&mut self, limit: u32) -> [u32; 3];
+    /// Keeps the state for `reset`.
+    fn save(&mut self);
+    /// The state as it was kept. What is lent stays.
+    fn reset(&mut self);
+    fn state_words(&self) -> StateWords;
+    fn lent(&self) -> &Lent;
+}
+
+/// The proved library.
+#[repr(align(64))]
+pub struct Proved {
+    state: StateWords,
+    saved: StateWords,
+    lent: Box<Lent>,
+}
+
+impl Machine for Proved {
+    type Step = (u32, [u32; 6]);
+
+    fn fresh() -> Proved {
+        let mut state = [0; STATE_WORDS];
+        proved::fresh(&mut state);
+        Proved {
+            state,
+            saved: state,
+            lent: Lent::new(),
+        }
+    }
+
+    fn read_register(&self, offset: u16) -> [u32; 2] {
+        let mut value = 0;
+        let answer = proved::read_register(&self.state, offset, &mut value);
+        [answer, value]
+    }
+
+    fn write_register(&mut self, offset: u16, value: u16) -> u32 {
+        proved::write_register(&mut self.state, offset, value)
+    }
+
+    fn feed(&mut self, bytes: &[u8]) -> u32 {
+        proved::feed(&mut self.state, &mut self.lent.ring, bytes)
+    }
+
+    fn step(&mut self) -> (u32, [u32; 6]) {
+        let Lent { ring, xf, vertex } = &mut *self.lent;
+        let mut answer = [0; 6];
+        let number = proved::step(&mut self.state, ring, xf, vertex, &mut answer);
+        (number, answer)
+    }
+
+    fn step_words(&(number, [kind, a, b, c, d, told]): &(u32, [u32; 6]), _: u32) -> [u32; 7] {
+        [number, kind, a, b, c, d, told]
+    }
+
+    fn run(&mut self, limit: u32) -> [u32; 3] {
+        let Lent { ring, xf, vertex } = &mut *self.lent;
+        let mut answer = [0; 2];
+        let number = proved::run(&mut self.state, ring, xf, vertex, limit, &mut answer);
+        let [units, lacking] = answer;
+        [number, units, lacking]
+    }
+
+    fn save(&mut self) {
+        self.saved = self.state;
+    }
+
+    fn reset(&mut self) {
+        self.state = self.saved;
+    }
+
+    fn state_words(&self) -> StateWords {
+        self.state
+    }
+
+    fn lent(&self) -> &Lent {
+        &self.lent
+    }
+}
+
+/// The implementation in plain Rust.
+#[repr(align(64))]
+pub struct Plain {
+    state: State,
+    saved: State,
+    lent: Box<Lent>,
+}
+
+fn memory(lent: &mut Lent) -> Memory<'_> {
+    Memory {
+        ring: &lent.ring,
+        xf: &mut lent.xf,
+        vertex: &mut lent.vertex,
+    }
+}
+
+/// 0, or the refusal's number.
+pub fn number<T>(answer: &Result<T, Refusal>) -> u32 {
+    match answer {
+        Ok(_) => 0,
+        Err(refusal) => u32::from(refusal.number()),
+    }
+}
+
+impl Machine for Plain {
+    type Step = Answer;
+
+    fn fresh() -> Plain {
+        Plain {
+            state: State::fresh(),
+            saved: State::fresh(),
+            lent: Lent::new(),
+        }
+    }
+
+    fn read_register(&self, offset: u16) -> [u32; 2] {
+        let answer = self.state.read_register(offset);
+        [number(&answer), u32::from(answer.unwrap_or(0))]
+    }
+
+    fn write_register(&mut self, offset: u16, value: u16) -> u32 {
+        number(&self.state.write_register(offset, value))
+    }
+
+    fn feed(&mut self, bytes: &[u8]) -> u32 {
+        number(&self.state.feed(&mut self.lent.ring, bytes))
+    }
+
+    fn step(&mut self) -> Answer {
+        self.state.step(&mut memory(&mut self.lent))
+    }
+
+    fn step_words(step: &Answer, bytes: u32) -> [u32; 7] {
+        match *step {
+            Answer::Done {
+                command,
+                memory_address,
+            } => {
+                let [kind, a, b, c, d] = command_words(command, memory_address);
+                [0, kind, a, b, c, d, bytes]
+            }
+            Answer::Waiting { lacking } => [WAITING, lacking, 0, 0, 0, 0, 0],
+            Answer::Refused(refusal) => [refusal.number().into(), 0, 0, 0, 0, 0, 0],
+        }
+    }
+
+    fn run(&mut self, limit: u32) -> [u32; 3] {
+        let run = self.state.run(&mut memory(&mut self.lent), limit);
+        match run.end {
+            End::Limit => [0, run.units, 0],
+            End::Waiting { lacking } => [WAITING, run.units, lacking],
+            End::Refused(refusal) => [refusal.number().into(), run.units, 0],
+        }
+    }
+
+    fn save(&mut self) {
+        self.saved = self.state.clone();
+    }
+
+    fn reset(&mut self) {
+        self.state.clone_from(&self.saved);
+    }
+
+    fn state_words(&self) -> StateWords {
+        state_words(&self.state)
+    }
+
+    fn lent(&self) -> &Lent {
+        &self.lent
+    }
+}
+
+/// A command as the library tells it: kind and four fields.
+fn command_words(command: Command, memory_address: u32) -> [u32; 5] {
+    match command {
+        Command::NoOperation => [0x00, 0, 0, 0, 0],
+        Command::Vertex => [0x01, 0, 0, 0, 0],
+        Command::DiscardVertexCache => [0x48, 0, 0, 0, 0],
+        Command::Metrics => [0x68, 0, 0, 0, 0],
+        Command::CpLoad { address, number } => [0x08, address.into(), number, 0, 0],
+        Command::XfLoad { words, address } => [0x10, words.into(), address.into(), 0, 0],
+        Command::IndexedLoad {
+            array,
+            index,
+            words,
+            xf_address,
+        } => [
+            0x20 + 8 * (u32::from(array) - 12),
+            index.into(),
+            words.into(),
+            xf_address.into(),
+            memory_address,
+        ],
+        Command::CallList { address, size } => [0x40, address, size, 0, 0],
+        Command::BpLoad { register, number } => [0x61, register.into(), number, 0, 0],
+        Command::Draw {
+            primitive,
+            format,
+            count,
+        } => [0x80, primitive.into(), format.into(), count.into(), 0],
+    }
+}
+
+/// The 327 words of a state, in the library's order.
+fn state_words(state: &State) -> StateWords {
+    let window = &state.window;
+    let draw = state.draw.map_or([0; 4], |draw| {
+        [
+            1,
+            draw.primitive.into(),
+            draw.format.into(),
+            draw.left.into(),
+        ]
+    });
+    let words = [
+        &[window.start, window.end, window.high_mark, window.low_mark],
+        &[window.write, window.read, u32::from(state.control)][..],
+        &draw,
+        &state.cp.matrix,
+        &state.cp.vcd,
+        &state.cp.vat.concat(),
+        &state.cp.bases,
+        &state.cp.strides,
+        &state.bp,
+    ]
+    .concat();
+    words.try_into().expect("327 words")
+}

@@ -1,0 +1,205 @@
+//! A machine brought to a row's start, what it does there, and the comparison
+//! of the two machines before anything is timed.
+
+use crate::machine::{Lent, Machine, Plain, Proved, RING, WAITING};
+use crate::proved::StateWords;
+use crate::streams::Stream;
+use crate::timing::Side;
+use std::hint::black_box;
+
+/// The largest limit of a run.
+const LIMIT: u32 = 65_535;
+const START: u32 = 0x1000;
+/// Where both pointers begin: a stream that fills the ring wraps.
+const POINTER: u32 = START + 40_001;
+
+/// What is timed.
+#[derive(Clone)]
+pub enum Work {
+    /// One run of the largest limit; its units are counted.
+    Run,
+    /// So many single steps.
+    Steps(u32),
+    /// The same bytes fed so often; the feeds are counted.
+    Feeds(Vec<u8>, u32),
+    /// The bytes fed once; they are counted.
+    FeedBytes(Vec<u8>),
+}
+
+/// How a row starts and what it does.
+pub struct Input {
+    /// Run before the row's own start: registers.
+    pub preamble: Stream,
+    /// What waits in the ring.
+    pub stream: Stream,
+    pub work: Work,
+}
+
+impl Input {
+    /// How many units the work must do.
+    fn units(&self) -> u64 {
+        match &self.work {
+            Work::Run => u64::from(self.stream.units),
+            Work::Steps(times) | Work::Feeds(_, times) => u64::from(*times),
+            Work::FeedBytes(bytes) => bytes.len() as u64,
+        }
+    }
+}
+
+/// A machine at a row's start.
+struct Player<M> {
+    machine: M,
+    work: Work,
+}
+
+impl<M: Machine> Side for Player<M> {
+    fn reset(&mut self) {
+        self.machine.reset();
+    }
+
+    fn work(&mut self) -> u64 {
+        let machine = black_box(&mut self.machine);
+        match &self.work {
+            Work::Run => u64::from(black_box(machine.run(black_box(LIMIT)))[1]),
+            Work::Steps(times) => {
+                for _ in 0..*times {
+                    black_box(machine.step());
+                }
+                u64::from(*times)
+            }
+            Work::Feeds(bytes, times) => {
+                for _ in 0..*times {
+                    black_box(machine.feed(black_box(bytes)));
+                }
+                u64::from(*times)
+            }
+            Work::FeedBytes(bytes) => {
+                black_box(machine.feed(black_box(bytes)));
+                bytes.len() as u64
+            }
+        }
+    }
+}
+
+/// All that can be seen of a machine from its fresh state to the row's end.
+#[derive(PartialEq)]
+struct Seen {
+    answers: Vec<u32>,
+    units: u64,
+    state: StateWords,
+    lent: Box<Lent>,
+}
+
+fn write_word<M: Machine>(machine: &mut M, offset: u16, word: u32) -> [u32; 2] {
+    [
+        machine.write_register(offset, word as u16),
+        machine.write_register(offset + 2, (word >> 16) as u16),
+    ]
+}
+
+/// Brings a machine to a row's start; its answers on the way.
+fn set_up<M: Machine>(input: &Input) -> (M, Vec<u32>) {
+    let mut machine = M::fresh();
+    let mut answers = vec![machine.write_register(0x002, 1)];
+    for (offset, word) in [(0x20, START), (0x24, START + RING as u32)] {
+        answers.extend(write_word(&mut machine, offset, word));
+    }
+    for (offset, word) in [(0x34, START), (0x38, START)] {
+        answers.extend(write_word(&mut machine, offset, word));
+    }
+    answers.push(machine.feed(&input.preamble.bytes));
+    answers.extend(machine.run(LIMIT));
+    for offset in [0x34, 0x38] {
+        answers.extend(write_word(&mut machine, offset, POINTER));
+    }
+    answers.push(machine.feed(&input.stream.bytes));
+    answers.extend(machine.read_register(0x000));
+    answers.extend(machine.read_register(0x030));
+    machine.save();
+    (machine, answers)
+}
+
+/// One step, with the bytes that it took by the count register.
+fn step_told<M: Machine>(machine: &mut M) -> [u32; 7] {
+    let [_, before] = machine.read_register(0x030);
+    let step = machine.step();
+    let [_, after] = machine.read_register(0x030);
+    M::step_words(&step, before.wrapping_sub(after))
+}
+
+/// Does the work once and tells every answer, and how many units were done.
+fn answers_of<M: Machine>(machine: &mut M, work: &Work) -> (Vec<u32>, u64) {
+    match work {
+        Work::Run => {
+            let answer = machine.run(LIMIT);
+            let units = if answer[0] == WAITING { answer[1] } else { 0 };
+            (answer.to_vec(), u64::from(units))
+        }
+        Work::Steps(times) => {
+            let steps: Vec<[u32; 7]> = (0..*times).map(|_| step_told(machine)).collect();
+            let done = steps.iter().filter(|words| words[0] == 0).count();
+            (steps.concat(), done as u64)
+        }
+        Work::Feeds(bytes, times) => {
+            let feeds: Vec<u32> = (0..*times).map(|_| machine.feed(bytes)).collect();
+            let done = feeds.iter().filter(|&&answer| answer == 0).count();
+            (feeds, done as u64)
+        }
+        Work::FeedBytes(bytes) => {
+            let answer = machine.feed(bytes);
+            let fed = if answer == 0 { bytes.len() } else { 0 };
+            (vec![answer], fed as u64)
+        }
+    }
+}
+
+/// A player at the row's start, and what was seen of the machine as it did the
+/// row's work once.
+fn prepare<M: Machine>(input: &Input) -> (Player<M>, Seen) {
+    let (mut machine, mut answers) = set_up::<M>(input);
+    let (more, units) = answers_of(&mut machine, &input.work);
+    answers.extend(more);
+    let seen = Seen {
+        answers,
+        units,
+        state: machine.state_words(),
+        lent: Box::new(machine.lent().clone()),
+    };
+    machine.reset();
+    let work = input.work.clone();
+    (Player { machine, work }, seen)
+}
+
+/// What differs first.
+fn difference(proved: &Seen, plain: &Seen) -> Option<String> {
+    let parts = [
+        ("answers", proved.answers == plain.answers),
+        ("units", proved.units == plain.units),
+        ("ring", proved.lent.ring == plain.lent.ring),
+        ("XF words", proved.lent.xf == plain.lent.xf),
+        ("vertex buffer", proved.lent.vertex == plain.lent.vertex),
+    ];
+    if let Some((part, _)) = parts.iter().find(|part| !part.1) {
+        return Some(format!("the {part} differ"));
+    }
+    let words = proved.state.iter().zip(&plain.state);
+    let word = words.into_iter().position(|(a, b)| a != b)?;
+    Some(format!("state word {word} differs"))
+}
+
+/// The two sides of a row: the proved library, then plain Rust.
+pub type Sides = [Box<dyn Side>; 2];
+
+/// Both sides of a row, once both did the same and all that was planned.
+pub fn sides(input: &Input) -> Result<Sides, String> {
+    let (proved, by_proved) = prepare::<Proved>(input);
+    let (plain, by_plain) = prepare::<Plain>(input);
+    if let Some(what) = difference(&by_proved, &by_plain) {
+        return Err(what);
+    }
+    if by_plain.units != input.units() {
+        let (done, planned) = (by_plain.units, input.units());
+        return Err(format!("{done} units were done and {planned} planned"));
+    }
+    Ok([Box::new(proved), Box::new(plain)])
+}
