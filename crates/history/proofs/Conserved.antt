@@ -1,7 +1,7 @@
 -- "Over any feeds and steps with no window register written between, bytes accepted minus bytes consumed by answered units equals the change
 -- in count."
 use mathlib.Core.Path.{_≡_, refl, sym, ap, _∙_, subst}
-use mathlib.Core.Bool.{Bool, true, false, cond, _&&_, _||_}
+use mathlib.Core.Bool.{Bool, true, false, cond, not, _&&_, _||_}
 use mathlib.Core.Logic.{_⊎_, inl, inr, ⊎-elim}
 use mathlib.Core.List.{List, [], _∷_, _++_, append-nil}
 use Prim.Native.Nat.{ℕ, zero, suc, _+_, _-_, _/_, _<_, _≤_}
@@ -22,6 +22,7 @@ use Rattle.processor.specs.Step.{stepFound, stepOf}
 use Rattle.processor.specs.Run.{Taken}
 use Rattle.history.specs.Calls.{World, Call, feed, step, run, write, read, queue, countAt, after, fed}
 use Rattle.history.specs.Calls.{unitsOf, afterAll, fedAll, unitsAll, consumedBy, harmless, Harmless, AllHarmless}
+use Rattle.history.specs.Promises.{Conserved}
 use Rattle.history.proofs.Flow.{Flows, flow-found, flow-run}
 
 -- ---- a write of control, clear or a mark leaves the queue
@@ -50,10 +51,18 @@ stored-kept f o v ring h =
     marks lo hi =
         rw (ne-eqb o 4 (λ e. omega arith), le-ltb o 0x20 (omega arith)) (mark-kept (f .window) o v ring (mark o lo hi))
 
-written-kept : (f : Fifo) (o v : ℕ) (ring : List ℕ) → harmless o ≡ true → pending (written f o v .window) ring ≡ pending (f .window) ring
+-- a write that is not refused is a harmless one
+if-written : (h w : Bool) → (h || not w) ≡ true → w ≡ true → h ≡ true
+if-written true w e t = refl
+if-written false true e t = e
+if-written false false e t = t
+
+written-kept : (f : Fifo) (o v : ℕ) (ring : List ℕ) → (harmless o || not (writable o)) ≡ true
+    → pending (written f o v .window) ring ≡ pending (f .window) ring
 unfolding written
 written-kept f o v ring h =
-    cond-both (λ (g : Fifo). pending (g .window) ring ≡ pending (f .window) ring) (writable o) (λ _. stored-kept f o v ring h) (λ _. refl)
+    cond-both (λ (g : Fifo). pending (g .window) ring ≡ pending (f .window) ring) (writable o)
+    (λ t. stored-kept f o v ring (if-written (harmless o) (writable o) h t)) (λ _. refl)
 
 -- ---- each call
 pub call-flow : (w : World) (c : Call) → Harmless c
@@ -82,8 +91,7 @@ consumed-append (u ∷ us) vs =
     omega arith
 
 -- over any list of calls
-pub conserved : (w : World) (cs : List Call) → AllHarmless cs
-    → countAt (afterAll w cs) + consumedBy (unitsAll w cs) ≡ countAt w + length (fedAll w cs)
+pub conserved : Conserved
 unfolding afterAll unitsAll fedAll consumedBy
 conserved w [] h = refl
 conserved w (c ∷ cs) h =
