@@ -4,4 +4,6 @@ pub mod Bounds
 pub mod Ranges
 pub mod Extends
 pub mod Prefix
+pub mod Promises
+pub mod Arrays
 pub mod Meanings
