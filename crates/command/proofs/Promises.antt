@@ -1,15 +1,15 @@
 -- What looks at the same stream promise together.
 use mathlib.Core.Path.{_≡_, refl, sym, _∙_}
-use mathlib.Core.Logic.{_⊎_, inl, inr}
+use mathlib.Core.Logic.{inl, inr}
 use mathlib.Core.List.{List, _++_}
 use Prim.Native.Nat.{ℕ, _+_, _-_, _*_, _<_, _≤_}
 use native.Mathlib.Omega.{arith}
-use lib.Dec.{ltb, eqb}
+use lib.Dec.{ltb}
 use lib.ListN.{length, getD, length-append, List·getD-append}
-use borrow.Author.Tests.{lt-ltb, le-ltb, ne-eqb}
+use borrow.Author.Tests.{lt-ltb}
 use Rattle.laws.proofs.Cases.{cond-both}
 use Rattle.command.specs.declared.Draw.the-variants.{Closed}
-use Rattle.command.specs.Command.{Found, waiting}
+use Rattle.command.specs.Command.{waiting}
 use Rattle.command.specs.Look.{whole, xfCount, xfWords, xfAddress, lookXf, byOpcode, lookOf}
 use Rattle.command.specs.Prefix.{HeadRead}
 use Rattle.command.specs.Promises.{lookAll, LookPromises}

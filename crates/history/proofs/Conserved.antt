@@ -1,14 +1,14 @@
 -- "Over any feeds and steps with no window register written between, bytes accepted minus bytes consumed by answered units equals the change
 -- in count."
-use mathlib.Core.Path.{_≡_, refl, sym, ap, _∙_, subst}
-use mathlib.Core.Bool.{Bool, true, false, cond, not, _&&_, _||_}
+use mathlib.Core.Path.{_≡_, refl, sym, ap, _∙_}
+use mathlib.Core.Bool.{Bool, true, false, not, _&&_, _||_}
 use mathlib.Core.Logic.{_⊎_, inl, inr, ⊎-elim}
 use mathlib.Core.List.{List, [], _∷_, _++_, append-nil}
-use Prim.Native.Nat.{ℕ, zero, suc, _+_, _-_, _/_, _<_, _≤_}
+use Prim.Native.Nat.{ℕ, _+_, _-_, _≤_}
 use native.Mathlib.Nat.{zero-add}
 use native.Mathlib.Omega.{arith}
 use lib.Dec.{eqb, leb}
-use lib.ListN.{length, getD, set, drop, length-append, length-drop}
+use lib.ListN.{length, drop, length-append, length-drop}
 use borrow.Author.Tests.{eqb-true, leb-true, ne-eqb, le-ltb}
 use Rattle.laws.proofs.Cases.{cond-both, order, and-left, and-right}
 use Rattle.fifo.specs.declared.Fifo.{Fifo}
@@ -21,7 +21,7 @@ use Rattle.fifo.proofs.Pending.{length-pending}
 use Rattle.processor.specs.Step.{stepFound, stepOf}
 use Rattle.processor.specs.Run.{Taken}
 use Rattle.history.specs.Calls.{World, Call, feed, step, run, write, read, queue, countAt, after, fed}
-use Rattle.history.specs.Calls.{unitsOf, afterAll, fedAll, unitsAll, consumedBy, harmless, Harmless, AllHarmless}
+use Rattle.history.specs.Calls.{unitsOf, afterAll, fedAll, unitsAll, consumedBy, harmless, Harmless}
 use Rattle.history.specs.Promises.{Conserved}
 use Rattle.history.proofs.Flow.{Flows, flow-found, flow-run}
 

@@ -1,10 +1,10 @@
 -- The promises over feeds and steps, of the machine: answers that more bytes don't change, a full ring that never waits, a written command
 -- that is stepped.
-use mathlib.Core.Path.{_≡_, refl, sym, ap, _∙_, subst}
-use mathlib.Core.Bool.{Bool, true, false}
+use mathlib.Core.Path.{_≡_, refl, sym, _∙_}
+use mathlib.Core.Bool.{false}
 use mathlib.Core.Logic.{⊎-elim}
-use mathlib.Core.List.{List, [], _∷_, _++_, append-nil}
-use Prim.Native.Nat.{ℕ, zero, suc, _+_, _-_, _≤_}
+use mathlib.Core.List.{List, [], _++_, append-nil}
+use Prim.Native.Nat.{ℕ, zero, suc, _+_, _-_}
 use native.Mathlib.Omega.{arith}
 use lib.ListN.{length}
 use lib.Seq.{take-all}
@@ -19,7 +19,7 @@ use Rattle.writer.specs.Again.{heldWords}
 use Rattle.writer.proofs.Back.{looks-back}
 use Rattle.writer.proofs.Loads.{loads-back}
 use Rattle.fifo.specs.declared.Fifo.{Fifo}
-use Rattle.fifo.specs.Window.{Ready, readyBy, sizeOf, countOf}
+use Rattle.fifo.specs.Window.{readyBy, countOf}
 use Rattle.fifo.specs.Feeding.{accepted, bytesAccepted, fifoAfter, ringAfter}
 use Rattle.fifo.proofs.WindowLaws.{true-ready}
 use Rattle.fifo.proofs.FeedLaws.{Fits, accepted-fits, pending-after, ready-after}
@@ -31,7 +31,7 @@ use Rattle.processor.specs.Step.{queueOf, lookAt, executed, stepFound, stepOf}
 use Rattle.processor.proofs.Passing.{Passes, gate-passes}
 use Rattle.history.specs.Calls.{World, feed, after}
 use Rattle.history.specs.More.{Longer}
-use Rattle.history.specs.Promises.{StepFed, RunFed, FullNeverWaits, WrittenAlone, StepWritten, StepWords}
+use Rattle.history.specs.Promises.{StepFed, RunFed, FullNeverWaits, StepWritten, StepWords}
 use Rattle.history.proofs.Bytes.{fed-octets}
 use Rattle.history.proofs.More.{step-longer, run-longer}
 

@@ -14,7 +14,7 @@ use Rattle.command.specs.Prefix.{Settled}
 use Rattle.writer.specs.Write.{commandBytes}
 use Rattle.writer.specs.Widths.{Typed, reported}
 use Rattle.writer.specs.Back.{Writable, WordsFit}
-use Rattle.fifo.specs.Window.{Ready, countOf, sizeOf}
+use Rattle.fifo.specs.Window.{Ready, sizeOf}
 use Rattle.processor.specs.State.{State}
 use Rattle.processor.specs.Gate.{gateOf}
 use Rattle.processor.specs.Step.{stepFound, stepOf}
