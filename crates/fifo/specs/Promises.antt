@@ -11,7 +11,7 @@ pub record StoredHalf (o : ℕ) : Type 0 where
   pub written : writable o ≡ true
   pub from : 0x20 ≤ o
 
--- "Each half takes effect at once.": a half that is written is read back, and every other half of every stored word is as it was
+-- "Each half takes effect at once": a half that is written is read back, and every other half of every stored word is as it was
 abbrev pub ReadsBack : Type 0
 ReadsBack =
     (f : Fifo) (drawing : Bool) (o p v : ℕ) → StoredHalf o → StoredHalf p → v < 0x10000

@@ -1,5 +1,5 @@
--- "Over any feeds and steps with no window register written between, bytes accepted minus bytes consumed by answered units equals the change
--- in count."
+-- "Over any feeds and steps with no window register written between, bytes accepted minus bytes consumed by answered units equals the
+-- change in count."
 use mathlib.Core.Path.{_≡_, refl, sym, ap, _∙_}
 use mathlib.Core.Bool.{Bool, true, false, not, _&&_, _||_}
 use mathlib.Core.Logic.{_⊎_, inl, inr, ⊎-elim}
@@ -79,7 +79,8 @@ count-call w c h =
     let f = call-flow w c h in
     let a : length (queue (after w c)) ≡ countAt (after w c) = length-pending (after w c .state .fifo .window) (after w c .ring) in
     let b : length (queue w) ≡ countAt w = length-pending (w .state .fifo .window) (w .ring) in
-    let d : length (queue (after w c)) ≡ length (queue w ++ fed w c) - consumedBy (unitsOf w c) = ap length (f .0) ∙ length-drop (consumedBy (unitsOf w c)) (queue w ++ fed w c) in
+    let d : length (queue (after w c)) ≡ length (queue w ++ fed w c) - consumedBy (unitsOf w c) =
+    ap length (f .0) ∙ length-drop (consumedBy (unitsOf w c)) (queue w ++ fed w c) in
     let l : length (queue w ++ fed w c) ≡ length (queue w) + length (fed w c) = length-append (queue w) (fed w c) in
     omega (arith, f .1)
 
@@ -95,8 +96,10 @@ pub conserved : Conserved
 unfolding afterAll unitsAll fedAll consumedBy
 conserved w [] h = refl
 conserved w (c ∷ cs) h =
-    let one : countAt (after w c) + consumedBy (unitsOf w c) ≡ countAt w + length (fed w c) = count-call w c (h .0) in
-    let rest : countAt (afterAll (after w c) cs) + consumedBy (unitsAll (after w c) cs) ≡ countAt (after w c) + length (fedAll (after w c) cs) = conserved (after w c) cs (h .1) in
-    let u : consumedBy (unitsOf w c ++ unitsAll (after w c) cs) ≡ consumedBy (unitsOf w c) + consumedBy (unitsAll (after w c) cs) = consumed-append (unitsOf w c) (unitsAll (after w c) cs) in
-    let l : length (fed w c ++ fedAll (after w c) cs) ≡ length (fed w c) + length (fedAll (after w c) cs) = length-append (fed w c) (fedAll (after w c) cs) in
+    let v : World = after w c in
+    let one : countAt v + consumedBy (unitsOf w c) ≡ countAt w + length (fed w c) = count-call w c (h .0) in
+    let rest : countAt (afterAll v cs) + consumedBy (unitsAll v cs) ≡ countAt v + length (fedAll v cs) = conserved v cs (h .1) in
+    let u : consumedBy (unitsOf w c ++ unitsAll v cs) ≡ consumedBy (unitsOf w c) + consumedBy (unitsAll v cs) =
+    consumed-append (unitsOf w c) (unitsAll v cs) in
+    let l : length (fed w c ++ fedAll v cs) ≡ length (fed w c) + length (fedAll v cs) = length-append (fed w c) (fedAll v cs) in
     omega arith

@@ -46,7 +46,8 @@ ready-same f ring bytes =
     ⊎-elim
     (λ t.
     let a : Fits f (length ring) (length bytes) = accepted-fits f ring bytes t in
-    true-ready (fifoAfter f ring bytes) (length (ringAfter f ring bytes)) (ready-after f ring bytes (a .ready)) ∙ sym (true-ready f (length ring) (a .ready)))
+    true-ready (fifoAfter f ring bytes) (length (ringAfter f ring bytes)) (ready-after f ring bytes (a .ready))
+    ∙ sym (true-ready f (length ring) (a .ready)))
     (refused-same f ring bytes)
     (tested (accepted f ring bytes))
 
@@ -98,7 +99,8 @@ full-never-waits w r full k e =
     let s : State = w .state in
     let q : List ℕ = queueOf (w .ring) s in
     let l : length q ≡ countOf (s .fifo .window) = length-pending (s .fifo .window) (w .ring) in
-    progress q (length q) (omega (arith, r .valid .least)) (s .cp) (s .draw) k (unless-waiting (gateOf s (length (w .ring))) (lookAt (w .ring) s) k e)
+    progress q (length q) (omega (arith, r .valid .least)) (s .cp) (s .draw) k
+    (unless-waiting (gateOf s (length (w .ring))) (lookAt (w .ring) s) k e)
 
 -- ---- "Stepping a written command, alone in a ring that passes 1 to 5 with no draw open, gives it back, for a draw head unless 9 or 10."
 pub step-written : StepWritten

@@ -22,8 +22,8 @@ use Rattle.processor.specs.Run.{runOf}
 use Rattle.history.specs.Calls.{World, Call, feed, queue, countAt, after, fed, afterAll, fedAll, unitsAll, consumedBy, AllHarmless}
 use Rattle.history.specs.More.{NotWaiting, SameRun}
 
--- "Over any feeds and steps with no window register written between, bytes accepted minus bytes consumed by answered units equals the change
--- in count." (proofs/Conserved)
+-- "Over any feeds and steps with no window register written between, bytes accepted minus bytes consumed by answered units equals the
+-- change in count." (proofs/Conserved)
 abbrev pub Conserved : Type 0
 Conserved =
     (w : World) (cs : List Call) → AllHarmless cs
@@ -73,4 +73,5 @@ StepWords =
 -- a state that passes 1 to 5 passes them after a run
 abbrev pub RunPasses : Type 0
 RunPasses =
-    (ring : List ℕ) → Octets ring → (limit : ℕ) (s : State) → gateOf s (length ring) ≡ 0 → gateOf (runOf ring limit s .state) (length ring) ≡ 0
+    (ring : List ℕ) → Octets ring → (limit : ℕ) (s : State) → gateOf s (length ring) ≡ 0
+    → gateOf (runOf ring limit s .state) (length ring) ≡ 0

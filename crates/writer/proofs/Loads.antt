@@ -5,8 +5,8 @@ use mathlib.Core.List.{List, [], _∷_, _++_}
 use Prim.Native.Nat.{ℕ, zero, suc, _+_, _*_, _<_, _≤_}
 use native.Mathlib.Omega.{arith}
 use lib.Dec.{leb, eqb}
-use lib.ListN.{length, getD, set, take, drop, length-append, length-drop}
-use lib.Seq.{take-suc, take-all, drop-set-add, take-suc-set}
+use lib.ListN.{length, getD, take, drop, length-append}
+use lib.Seq.{take-suc, take-all}
 use borrow.Author.Tests.{not-false, eqb-true, ltb-false, le-leb}
 use Rattle.laws.proofs.Cases.{and-right}
 use Rattle.octets.specs.BigEndian.{bigEndian, bytesOf}
@@ -14,11 +14,11 @@ use Rattle.octets.proofs.Written.{length-bytes, shift, read-back}
 use Rattle.command.specs.Command.{loadXf}
 use Rattle.command.specs.Look.{xfCount}
 use Rattle.effect.specs.Effect.{storedXf, loadedXf, xfAfter}
-use Rattle.effect.proofs.Lengths.{length-stored}
 use Rattle.writer.specs.Write.{headOf, wordsOf, wordBytes, commandBytes, unwritable, pastEnd}
 use Rattle.writer.specs.Again.{heldWords}
 use Rattle.writer.specs.Back.{Writable, WordsFit, LoadsBack}
 use Rattle.writer.proofs.Words.{length-words}
+use Rattle.writer.proofs.Again.{stored-next}
 
 -- a word is read back from its place among the words' bytes
 word-at : (ws : List ℕ) → WordsFit ws → (n : ℕ) → n < length ws → bigEndian (wordBytes ws) (4 * n) 4 ≡ getD ws n 0
@@ -34,16 +34,9 @@ word-at (w ∷ ws) h (suc n) l =
 -- the words that are stored from a unit whose words these are
 stored-words : (xf u ws : List ℕ) (a : ℕ) → ((k : ℕ) → k < length ws → bigEndian u (5 + 4 * k) 4 ≡ getD ws k 0)
     → (n : ℕ) → n ≤ length ws → a + n ≤ length xf → take n (drop a (storedXf xf u a n)) ≡ take n ws
-unfolding storedXf
 stored-words xf u ws a f zero h k = refl
 stored-words xf u ws a f (suc n) h k =
-    let x : List ℕ = storedXf xf u a n in
-    let v : ℕ = bigEndian u (5 + 4 * n) 4 in
-    let l : length x ≡ length xf = length-stored xf u a n in
-    let short : n < length (drop a x) = rw length-drop (omega arith) in
-    let e : take (suc n) (drop a (set x (a + n) v)) ≡ take n (drop a x) ++ (v ∷ []) =
-    ap (λ (y : List ℕ). take (suc n) y) (drop-set-add a x n v) ∙ take-suc-set (drop a x) n v short in
-    e
+    stored-next xf u a n k
     ∙ rw (stored-words xf u ws a f n (omega arith) (omega arith), f n (omega arith), ← take-suc ws n 0 (omega arith))
 
 module _ (w a : ℕ) (words xf : List ℕ) (many : w ≡ length words) (h : WordsFit words) (fits : a + w ≤ length xf) where
