@@ -4,5 +4,7 @@ pub mod Bounds
 pub mod Ranges
 pub mod Extends
 pub mod Prefix
+pub mod Promises
+pub mod Arrays
 pub mod Meanings
 pub mod OpenDraw

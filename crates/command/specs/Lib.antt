@@ -3,3 +3,4 @@ pub mod Places
 pub mod Look
 pub mod Bounds
 pub mod Prefix
+pub mod Promises

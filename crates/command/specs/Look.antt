@@ -11,7 +11,7 @@ use Rattle.command.specs.declared.Draw.{Draw}
 use Rattle.command.specs.declared.Draw.the-variants.{Closed, Open}
 use Rattle.command.specs.Command.{Found, unit, waiting, refused, noOperation, invalidateCache, metrics}
 use Rattle.command.specs.Command.{loadCp, loadXf, loadIndexed, callList, loadBp, drawHead, vertex}
-use Rattle.command.specs.Places.{cpAccepted, vcdPlace, vatPlace, basePlace, stridePlace}
+use Rattle.command.specs.Places.{cpAccepted, vcdPlace, vatPlace, basePlace, stridePlace, indexedLoad, arrayOf}
 
 -- a unit of so many bytes: it waits for those that it lacks
 unfoldable pub whole : ℕ → ℕ → List ℕ → ℕ → Found
@@ -34,7 +34,7 @@ xfWords b = bigEndian b 1 2 % 16 + 1
 unfoldable pub xfAddress : List ℕ → ℕ
 xfAddress b = bigEndian b 3 2
 
--- "10: length 16, address 16, then words. Address plus words must not pass 4,184." The fifth byte decides 8
+-- "10: length 16, address 16, then words"; "Address plus words must not pass 4,184." The fifth byte decides 8
 unfoldable pub lookXf : List ℕ → ℕ → Found
 lookXf b n =
     cond (ltb n 5) (waiting (5 - n))
@@ -43,7 +43,7 @@ lookXf b n =
 
 -- "Bits 3 and 4 pick array 12 to 15."
 abbrev pub indexedArray : ℕ → ℕ
-indexedArray op = 12 + op / 8 % 4
+indexedArray op = arrayOf (indexedLoad (op / 8 % 4))
 
 -- "the memory address, base plus index times stride", of a base of 26 bits and a stride of 8 (wider ones are refused by 1)
 unfoldable pub memoryOf : List ℕ → ℕ → ℕ → ℕ

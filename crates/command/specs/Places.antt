@@ -38,7 +38,14 @@ cpPlace a =
 unfoldable pub cpAccepted : ℕ → Bool
 cpAccepted a = eqb a 0x20 || ltb (cpPlace a) cpCount
 
--- "Arrays by attribute: 0 position, 1 normal, 2 and 3 colours, 4 to 11 textures, 12 to 15 the indexed loads": here attributes 9 to 20.
--- Nothing is fetched, so that of all arrays only 12 to 15 show, in the address that an indexed load reports (`indexedArray`).
-abbrev pub attributeArray : ℕ → ℕ
-attributeArray attribute = attribute - 9
+-- what an array is for: an attribute, by its place in a vertex (9 position, 10 normal, 11 and 12 colours, 13 to 20 textures),
+-- or one of the four indexed loads, 0 to 3
+pub data ArrayUse : Type 0 where
+  attribute : ℕ → ArrayUse
+  indexedLoad : ℕ → ArrayUse
+
+-- "Arrays by attribute: 0 position, 1 normal, 2 and 3 colours, 4 to 11 textures, 12 to 15 the indexed loads". Nothing is fetched, so that
+-- of all arrays only those of the indexed loads show, in the command and the address that are reported (`indexedArray`)
+abbrev pub arrayOf : ArrayUse → ℕ
+arrayOf (attribute k) = k - 9
+arrayOf (indexedLoad k) = 12 + k

@@ -2,11 +2,12 @@
 use mathlib.Core.Path.{_≡_}
 use mathlib.Core.Logic.{_⊎_}
 use mathlib.Core.List.{List}
-use Prim.Native.Nat.{ℕ, _+_, _<_, _≤_}
+use Prim.Native.Nat.{ℕ, _+_, _*_, _<_, _≤_}
 use lib.ListN.{getD}
 use Rattle.command.specs.declared.Draw.{Draw}
 use Rattle.command.specs.declared.Draw.the-variants.{Closed, Open}
-use Rattle.command.specs.Command.{Found, unit, waiting}
+use Rattle.command.specs.Command.{Found, unit, waiting, refused}
+use Rattle.command.specs.Look.{xfWords}
 
 -- an answer other than waiting
 abbrev pub Settled : Found → Type 0
@@ -20,10 +21,14 @@ NoUnit x = (c : List ℕ) (m l : ℕ) → x ≡ unit c m l → ⊥
 abbrev pub Longer : ℕ → Found → Type 0
 Longer n x = (c : List ℕ) (m l : ℕ) → x ≡ unit c m l → n < l
 
--- no byte at all, or a part of an XF load's head: what comes next decides only how many bytes come after it
+-- no byte at all, or a part of an XF load's head: what comes next decides how many bytes come after it, or a refusal
 abbrev pub Heads : List ℕ → ℕ → Draw → Type 0
 Heads p n Closed = (n ≡ 0) ⊎ ((getD p 0 0 ≡ 0x10) × (n < 5))
 Heads p n (Open primitive format left) = ⊥
+
+-- the answer at just the five bytes of an XF load's head: 8, or waiting for all of its words
+abbrev pub HeadRead : List ℕ → Found → Type 0
+HeadRead b x = (x ≡ refused 8) ⊎ (x ≡ waiting (4 * xfWords b))
 
 -- x is the answer at n bytes and y at n' of the same: `keeps`, an answer other than waiting stays;
 -- `fewer`, with fewer bytes more than are lacking there is no unit;

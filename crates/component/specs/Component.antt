@@ -41,7 +41,7 @@ twoTo s = fin false 1 (minus 0 s)
 abbrev pub quotientOf : ℤ → ℕ → Float
 quotientOf z s = round binary32 (negative z) (size z) (2 ^ s)
 
--- "An integer component n with shift s is exactly n / 2^s; f32 keeps its bits": a shift counts modulo 32
+-- "An integer component n with shift s is exactly n / 2^s"; "f32 keeps its bits." A shift counts modulo 32
 unfoldable pub componentOf : ℕ → ℕ → ℕ → Float
 componentOf format raw s = cond (ltb format 4) (quotientOf (integerOf format raw) (s % 32)) (ofBits binary32 (patternOf format raw))
 

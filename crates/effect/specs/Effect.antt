@@ -28,7 +28,8 @@ cpAfter c cp = cond (eqb (kindOf c) 0x08) (loadedCp cp (fieldOf c 1) (fieldOf c 
 
 -- ---- "BP load"
 
--- "new = old outside m, number inside m", of 24-bit numbers; wider ones are refused by 1
+-- "new = old outside m, number inside m": so it is of the low 24 bits, and registers above 24 bits are refused by 1. Nothing is reduced:
+-- a higher bit is set where the mask has it, and the old number or the new one too
 unfoldable pub masked : ℕ → ℕ → ℕ → ℕ
 masked old mask n = bitOr (bitAnd old (bitXor 0xFFFFFF mask)) (bitAnd n mask)
 

@@ -32,7 +32,8 @@ pub fn load_cp(cp: &mut [u32; 60], address: u8, number: u32)
     }
 }
 
-// Old outside the mask, number inside.
+// Of the low 24 bits: old outside the mask, number inside. Nothing is reduced: a higher bit is set where the mask and either of the two
+// have it.
 pub fn replace_bits(old: u32, mask: u32, number: u32) -> u32
     ensures { λ r. ⌜ r ≡ masked old mask number ⌝ }
 {

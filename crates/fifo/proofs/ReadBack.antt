@@ -11,8 +11,8 @@ use lib.Seq.{getD-set-same, getD-set-other}
 use borrow.Author.Tests.{eq-eqb, ne-eqb, eqb-true, eqb-false, le-ltb}
 use Rattle.laws.proofs.Cases.{tested}
 use Rattle.fifo.specs.declared.Window.{Window}
-use Rattle.fifo.specs.declared.Fifo.{Fifo}
-use Rattle.fifo.specs.Registers.{words, fromWords, wordAt, isHigh, halfOf, withHalf, writable, valueOf, withRegister, stored}
+use Rattle.fifo.specs.Registers.{words, fromWords, wordAt, isHigh, halfOf, withHalf, valueOf, withRegister, stored}
+use Rattle.fifo.specs.Promises.{StoredHalf, ReadsBack}
 use Rattle.fifo.proofs.RegisterLaws.{WordOffset, writable-word, writable-stored}
 
 -- the stored words of a window that is made of words
@@ -57,11 +57,6 @@ same-by p o x y true false a b e f w = ne-eqb p o (λ q. omega (arith, eqb-true 
 same-by p o x y false true a b e f w = ne-eqb p o (λ q. omega (arith, low-is p a, eqb-true (o / 2 % 2) 1 b))
 same-by p o x y false false a b e f w = eq-eqb p o (omega (arith, low-is p a, low-is o b))
 
--- the offset of a half of a stored word
-pub record StoredHalf (o : ℕ) : Type 0 where
-  pub written : writable o ≡ true
-  pub from : 0x20 ≤ o
-
 module _ (w : Window) (o p v : ℕ) (a : StoredHalf o) (b : StoredHalf p) (l : v < 0x10000) where
   at-o : WordOffset o
   at-o = writable-word o (a .written) (a .from)
@@ -98,8 +93,7 @@ module _ (w : Window) (o p v : ℕ) (a : StoredHalf o) (b : StoredHalf p) (l : v
       rw (q, getD-set-other (words w) (wordAt o) (wordAt p) new 0 n))
       (tested (eqb (wordAt p) (wordAt o)))
 
-pub read-back : (f : Fifo) (drawing : Bool) (o p v : ℕ) → StoredHalf o → StoredHalf p → v < 0x10000
-    → valueOf (stored f o v) drawing p ≡ cond (eqb p o) v (valueOf f drawing p)
+pub read-back : ReadsBack
 unfolding valueOf stored
 read-back f drawing o p v a b l =
     rw (

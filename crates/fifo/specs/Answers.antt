@@ -27,7 +27,7 @@ abbrev pub meaningOf : Answer → List ℕ
 meaningOf answer.Accepted = 0 ∷ []
 meaningOf (answer.Refused r) = number r ∷ []
 
--- "Count .. tests the window numbers": the count, or 1
+-- "Count and status reads test the window numbers": the count, or 1
 unfoldable pub countAnswer : Fifo → List ℕ
 countAnswer f = cond (validBy (f .window)) (0 ∷ countOf (f .window) ∷ []) (1 ∷ [])
 

@@ -4,3 +4,4 @@ pub mod Registers
 pub mod Pending
 pub mod Feeding
 pub mod Cursor
+pub mod Promises

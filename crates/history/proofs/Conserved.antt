@@ -1,14 +1,14 @@
--- "Over any feeds and steps with no window register written between, bytes accepted minus bytes consumed by answered units equals the change
--- in count."
-use mathlib.Core.Path.{_≡_, refl, sym, ap, _∙_, subst}
-use mathlib.Core.Bool.{Bool, true, false, cond, _&&_, _||_}
+-- "Over any feeds and steps with no window register written between, bytes accepted minus bytes consumed by answered units equals the
+-- change in count."
+use mathlib.Core.Path.{_≡_, refl, sym, ap, _∙_}
+use mathlib.Core.Bool.{Bool, true, false, not, _&&_, _||_}
 use mathlib.Core.Logic.{_⊎_, inl, inr, ⊎-elim}
 use mathlib.Core.List.{List, [], _∷_, _++_, append-nil}
-use Prim.Native.Nat.{ℕ, zero, suc, _+_, _-_, _/_, _<_, _≤_}
+use Prim.Native.Nat.{ℕ, _+_, _-_, _≤_}
 use native.Mathlib.Nat.{zero-add}
 use native.Mathlib.Omega.{arith}
 use lib.Dec.{eqb, leb}
-use lib.ListN.{length, getD, set, drop, length-append, length-drop}
+use lib.ListN.{length, drop, length-append, length-drop}
 use borrow.Author.Tests.{eqb-true, leb-true, ne-eqb, le-ltb}
 use Rattle.laws.proofs.Cases.{cond-both, order, and-left, and-right}
 use Rattle.fifo.specs.declared.Fifo.{Fifo}
@@ -21,7 +21,8 @@ use Rattle.fifo.proofs.Pending.{length-pending}
 use Rattle.processor.specs.Step.{stepFound, stepOf}
 use Rattle.processor.specs.Run.{Taken}
 use Rattle.history.specs.Calls.{World, Call, feed, step, run, write, read, queue, countAt, after, fed}
-use Rattle.history.specs.Calls.{unitsOf, afterAll, fedAll, unitsAll, consumedBy, harmless, Harmless, AllHarmless}
+use Rattle.history.specs.Calls.{unitsOf, afterAll, fedAll, unitsAll, consumedBy, harmless, Harmless}
+use Rattle.history.specs.Promises.{Conserved}
 use Rattle.history.proofs.Flow.{Flows, flow-found, flow-run}
 
 -- ---- a write of control, clear or a mark leaves the queue
@@ -50,10 +51,18 @@ stored-kept f o v ring h =
     marks lo hi =
         rw (ne-eqb o 4 (λ e. omega arith), le-ltb o 0x20 (omega arith)) (mark-kept (f .window) o v ring (mark o lo hi))
 
-written-kept : (f : Fifo) (o v : ℕ) (ring : List ℕ) → harmless o ≡ true → pending (written f o v .window) ring ≡ pending (f .window) ring
+-- a write that is not refused is a harmless one
+if-written : (h w : Bool) → (h || not w) ≡ true → w ≡ true → h ≡ true
+if-written true w e t = refl
+if-written false true e t = e
+if-written false false e t = t
+
+written-kept : (f : Fifo) (o v : ℕ) (ring : List ℕ) → (harmless o || not (writable o)) ≡ true
+    → pending (written f o v .window) ring ≡ pending (f .window) ring
 unfolding written
 written-kept f o v ring h =
-    cond-both (λ (g : Fifo). pending (g .window) ring ≡ pending (f .window) ring) (writable o) (λ _. stored-kept f o v ring h) (λ _. refl)
+    cond-both (λ (g : Fifo). pending (g .window) ring ≡ pending (f .window) ring) (writable o)
+    (λ t. stored-kept f o v ring (if-written (harmless o) (writable o) h t)) (λ _. refl)
 
 -- ---- each call
 pub call-flow : (w : World) (c : Call) → Harmless c
@@ -70,7 +79,8 @@ count-call w c h =
     let f = call-flow w c h in
     let a : length (queue (after w c)) ≡ countAt (after w c) = length-pending (after w c .state .fifo .window) (after w c .ring) in
     let b : length (queue w) ≡ countAt w = length-pending (w .state .fifo .window) (w .ring) in
-    let d : length (queue (after w c)) ≡ length (queue w ++ fed w c) - consumedBy (unitsOf w c) = ap length (f .0) ∙ length-drop (consumedBy (unitsOf w c)) (queue w ++ fed w c) in
+    let d : length (queue (after w c)) ≡ length (queue w ++ fed w c) - consumedBy (unitsOf w c) =
+    ap length (f .0) ∙ length-drop (consumedBy (unitsOf w c)) (queue w ++ fed w c) in
     let l : length (queue w ++ fed w c) ≡ length (queue w) + length (fed w c) = length-append (queue w) (fed w c) in
     omega (arith, f .1)
 
@@ -82,13 +92,14 @@ consumed-append (u ∷ us) vs =
     omega arith
 
 -- over any list of calls
-pub conserved : (w : World) (cs : List Call) → AllHarmless cs
-    → countAt (afterAll w cs) + consumedBy (unitsAll w cs) ≡ countAt w + length (fedAll w cs)
+pub conserved : Conserved
 unfolding afterAll unitsAll fedAll consumedBy
 conserved w [] h = refl
 conserved w (c ∷ cs) h =
-    let one : countAt (after w c) + consumedBy (unitsOf w c) ≡ countAt w + length (fed w c) = count-call w c (h .0) in
-    let rest : countAt (afterAll (after w c) cs) + consumedBy (unitsAll (after w c) cs) ≡ countAt (after w c) + length (fedAll (after w c) cs) = conserved (after w c) cs (h .1) in
-    let u : consumedBy (unitsOf w c ++ unitsAll (after w c) cs) ≡ consumedBy (unitsOf w c) + consumedBy (unitsAll (after w c) cs) = consumed-append (unitsOf w c) (unitsAll (after w c) cs) in
-    let l : length (fed w c ++ fedAll (after w c) cs) ≡ length (fed w c) + length (fedAll (after w c) cs) = length-append (fed w c) (fedAll (after w c) cs) in
+    let v : World = after w c in
+    let one : countAt v + consumedBy (unitsOf w c) ≡ countAt w + length (fed w c) = count-call w c (h .0) in
+    let rest : countAt (afterAll v cs) + consumedBy (unitsAll v cs) ≡ countAt v + length (fedAll v cs) = conserved v cs (h .1) in
+    let u : consumedBy (unitsOf w c ++ unitsAll v cs) ≡ consumedBy (unitsOf w c) + consumedBy (unitsAll v cs) =
+    consumed-append (unitsOf w c) (unitsAll v cs) in
+    let l : length (fed w c ++ fedAll v cs) ≡ length (fed w c) + length (fedAll v cs) = length-append (fed w c) (fedAll v cs) in
     omega arith

@@ -3,3 +3,4 @@ pub mod Conserved
 pub mod More
 pub mod Bytes
 pub mod Fed
+pub mod Passes

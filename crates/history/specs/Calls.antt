@@ -2,14 +2,14 @@
 -- as the calls before returned or left it." Each call is the very definition that the call's contract cites.
 use mathlib.Core.Path.{_≡_}
 use mathlib.Core.List.{List, [], _∷_, _++_}
-use mathlib.Core.Bool.{Bool, true, _&&_, _||_}
+use mathlib.Core.Bool.{Bool, true, not, _&&_, _||_}
 use Prim.Native.Nat.{ℕ, _+_}
 use lib.Dec.{leb, eqb}
 use Rattle.command.specs.Command.{Found, unit, waiting, refused}
 use Rattle.fifo.specs.declared.Fifo.{Fifo}
 use Rattle.fifo.specs.Window.{countOf}
 use Rattle.fifo.specs.Feeding.{bytesAccepted, fifoAfter, ringAfter}
-use Rattle.fifo.specs.Registers.{written}
+use Rattle.fifo.specs.Registers.{writable, written}
 use Rattle.processor.specs.State.{State}
 use Rattle.processor.specs.Step.{queueOf, stepFound, stepOf}
 use Rattle.processor.specs.Run.{Taken, runOf}
@@ -26,10 +26,6 @@ pub data Call : Type 0 where
   run : ℕ → Call
   write : ℕ → ℕ → Call
   read : ℕ → Call
-
--- a clear, with any value
-abbrev pub clear : ℕ → Call
-clear value = write 4 value
 
 -- a world with another fifo, and with another state
 abbrev pub withFifo : World → Fifo → World
@@ -111,7 +107,7 @@ unfoldable pub consumedBy : List Taken → ℕ
 consumedBy [] = 0
 consumedBy (u ∷ us) = u .length + consumedBy us
 
--- "no window register written between": control, clear and the marks may be
+-- "no window register written between": control, clear and the marks may be, and a refused write writes none
 unfoldable pub harmless : ℕ → Bool
 harmless offset = (eqb offset 2 || eqb offset 4) || (leb 0x28 offset && leb offset 0x2F)
 
@@ -119,7 +115,7 @@ abbrev pub Harmless : Call → Type 0
 Harmless (feed bytes) = Unit {0}
 Harmless step = Unit {0}
 Harmless (run limit) = Unit {0}
-Harmless (write offset value) = harmless offset ≡ true
+Harmless (write offset value) = (harmless offset || not (writable offset)) ≡ true
 Harmless (read offset) = Unit {0}
 
 abbrev pub AllHarmless : List Call → Type 0

@@ -9,10 +9,7 @@ use lib.Dec.{lit≤, lit<}
 use lib.ListN.{getD, take, drop}
 use lib.Seq.{getD-drop}
 use Rattle.octets.specs.BigEndian.{bigEndian}
-
--- a list of bytes
-abbrev pub Octets : List ℕ → Type 0
-Octets l = (k : ℕ) → getD l k 0 < 256
+pub use Rattle.octets.specs.BigEndian.{Octets}
 
 -- ---- reading a byte after another
 top : (i : ℕ) → i < 4 → 256 ^ i ≤ 16777216

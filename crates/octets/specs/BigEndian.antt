@@ -1,9 +1,13 @@
 -- "All multi-byte numbers in the stream are big-endian."
 use mathlib.Core.Bool.{cond}
 use mathlib.Core.List.{List, [], _∷_, _++_}
-use Prim.Native.Nat.{ℕ, zero, suc, _+_, _*_, _/_, _%_}
+use Prim.Native.Nat.{ℕ, zero, suc, _+_, _*_, _/_, _%_, _<_}
 use lib.Dec.{ltb}
 use lib.ListN.{getD}
+
+-- a list of bytes
+abbrev pub Octets : List ℕ → Type 0
+Octets l = (k : ℕ) → getD l k 0 < 256
 
 -- the number of the n bytes from place `at` on; a place past the end holds 0
 unfoldable pub bigEndian : List ℕ → ℕ → ℕ → ℕ

@@ -1,5 +1,6 @@
 pub mod Faults
 pub mod Masked
+pub mod LoadedBits
 pub mod Algebra
 pub mod Loads
 pub mod Writing

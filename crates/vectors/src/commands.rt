@@ -66,26 +66,26 @@ fn address(next: Next) -> u32 {
     }
 }
 
-// The vertices that are left of an open draw, 0 where none is open.
-fn left(draw: Draw) -> u32 {
+// 1 where a draw is open, with however many vertices left, and 0 where none is.
+fn open(draw: Draw) -> u32 {
     match draw {
         Draw::Closed => 0,
         Draw::Open {
             primitive: _,
             format: _,
-            left,
-        } => left as u32,
+            left: _,
+        } => 1,
     }
 }
 
-// The vertices left after the unit that is found; 1000 and the number where it is refused, 2000 where it waits.
-fn left_after(next: Next) -> u32 {
+// Whether a draw is open after the unit that is found; 1000 and the number where it is refused, 2000 where it waits.
+fn open_after(next: Next) -> u32 {
     match next {
         Next::Unit {
             command,
             memory: _,
             length: _,
-        } => left(effect::next_draw(command, Draw::Closed)),
+        } => open(effect::next_draw(command, Draw::Closed)),
         Next::Waiting(_) => 2000,
         Next::Refused(reason) => 1000 + refusal::number(reason) as u32,
     }
@@ -120,11 +120,11 @@ pub fn indexed_load() {
 // "90 00 00, position present, leaves no draw open."
 pub fn draw_heads() {
     line::write(
-        b"vertices left after 90 00 00: ",
-        left_after(look(0x90, 0x00, 0x00, 0, 0)),
+        b"draws open after 90 00 00: ",
+        open_after(look(0x90, 0x00, 0x00, 0, 0)),
     );
     line::write(
-        b"vertices left after 90 00 01: ",
-        left_after(look(0x90, 0x00, 0x01, 0, 0)),
+        b"draws open after 90 00 01: ",
+        open_after(look(0x90, 0x00, 0x01, 0, 0)),
     );
 }

@@ -21,6 +21,18 @@ fn first_digit(n: u32) -> usize
     if n < 100_000 {
         return 5;
     }
+    if n < 1_000_000 {
+        return 4;
+    }
+    if n < 10_000_000 {
+        return 3;
+    }
+    if n < 100_000_000 {
+        return 2;
+    }
+    if n < 1_000_000_000 {
+        return 1;
+    }
     0
 }
 

@@ -6,7 +6,7 @@ use mathlib.Core.List.{List, [], _∷_, _++_, append-nil}
 use Prim.Native.Nat.{ℕ, zero, suc, _+_, _-_, _*_, _/_, _%_, _^_, _<_, _≤_}
 use native.Mathlib.Omega.{arith}
 use lib.Dec.{leb, eqb}
-use lib.ListN.{length, getD, set, take, drop, length-drop, take-append-drop}
+use lib.ListN.{length, getD, take, drop, length-drop, take-append-drop}
 use borrow.Author.Tests.{le-leb}
 use lib.Seq.{take-take, take-all, drop-cons, take-add, drop-drop, drop-set-add, take-suc-set}
 use Rattle.octets.specs.BigEndian.{bigEndian, bytesOf}
@@ -20,21 +20,27 @@ use Rattle.writer.specs.Write.{lengthField, headOf, wordsOf, wordBytes, 
 use Rattle.writer.specs.Again.{lowered, heldWords}
 use Rattle.writer.proofs.Words.{words-append, words-one}
 
+-- a load of one word more adds that word
+pub stored-next : (xf u : List ℕ) (a n : ℕ) → a + suc n ≤ length xf
+    → take (suc n) (drop a (storedXf xf u a (suc n))) ≡ take n (drop a (storedXf xf u a n)) ++ (bigEndian u (5 + 4 * n) 4 ∷ [])
+unfolding storedXf
+stored-next xf u a n h =
+    let x : List ℕ = storedXf xf u a n in
+    let l : length x ≡ length xf = length-stored xf u a n in
+    let short : n < length (drop a x) = rw length-drop (omega arith) in
+    ap (λ (y : List ℕ). take (suc n) y) (drop-set-add a x n (bigEndian u (5 + 4 * n) 4)) ∙ take-suc-set (drop a x) n _ short
+
 -- the words that a load stored, written again, are its bytes
 words-again : (xf u : List ℕ) → Octets u → (a n : ℕ) → a + n ≤ length xf → 5 + 4 * n ≤ length u
     → wordBytes (take n (drop a (storedXf xf u a n))) ≡ take (4 * n) (drop 5 u)
-unfolding storedXf wordBytes
+unfolding wordBytes
 words-again xf u o a zero h k = refl
 words-again xf u o a (suc n) h k =
     let x : List ℕ = storedXf xf u a n in
     let v : ℕ = bigEndian u (5 + 4 * n) 4 in
-    let l : length x ≡ length xf = length-stored xf u a n in
-    let short : n < length (drop a x) = rw length-drop (omega arith) in
-    let e : take (suc n) (drop a (set x (a + n) v)) ≡ take n (drop a x) ++ (v ∷ []) =
-    ap (λ (y : List ℕ). take (suc n) y) (drop-set-add a x n v) ∙ take-suc-set (drop a x) n v short in
     let w : bytesOf 4 v ≡ take 4 (drop (5 + 4 * n) u) = write-back u (5 + 4 * n) 4 o (omega arith) in
     let f : 4 * suc n ≡ 4 * n + 4 = omega arith in
-    ap wordBytes e
+    ap wordBytes (stored-next xf u a n h)
     ∙ words-append (take n (drop a x)) (v ∷ [])
     ∙ rw (words-one v, words-again xf u o a n (omega arith) (omega arith), w, f, take-add (4 * n) 4 (drop 5 u), drop-drop (4 * n) 5 u)
 

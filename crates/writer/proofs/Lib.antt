@@ -6,3 +6,5 @@ pub mod RoundTrip
 pub mod Back
 pub mod Again
 pub mod Accepts
+pub mod Loads
+pub mod Promises

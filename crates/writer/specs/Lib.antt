@@ -3,3 +3,4 @@ pub mod Heads
 pub mod Widths
 pub mod Again
 pub mod Back
+pub mod Promises

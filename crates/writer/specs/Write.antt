@@ -1,4 +1,4 @@
--- "The writer takes any single command but a vertex, its fields in the widths above, an XF load's words lent beside it."
+-- "The writer takes any single command but a vertex, its fields in the widths above, an XF load's words lent beside it, 1 to 16, .."
 -- A command is its list of numbers, kind and fields.
 use mathlib.Core.Path.{_≡_}
 use mathlib.Core.Bool.{Bool, true, cond, not, _&&_, _||_}
@@ -48,8 +48,8 @@ commandBytes c words = headOf c ++ wordBytes (take (wordsOf c) words)
 
 -- ---- the refusals: 18, "then tests 7 and 8, then 16"
 
--- "command to write is a vertex or has a field out of range":
--- "its fields in the widths above, an XF load's words lent beside it, 1 to 16, as many as it names (else 18)"
+-- "command to write is a vertex or has a field out of range": ".. its fields in the widths above, an XF load's words lent beside it,
+-- 1 to 16, as many as it names (else 18; ignored for other commands)"
 unfoldable pub unwritable : List ℕ → ℕ → Bool
 unwritable c lent =
     cond (eqb (kindOf c) 0x01) true

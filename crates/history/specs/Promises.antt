@@ -1,0 +1,77 @@
+-- What several calls promise together: each type here is the statement of the theorem that has its name in `proofs/`.
+use mathlib.Core.Path.{_≡_}
+use mathlib.Core.List.{List}
+use Prim.Native.Nat.{ℕ, _+_, _-_}
+use lib.ListN.{length, take, drop}
+use Rattle.octets.specs.BigEndian.{Octets}
+use Rattle.layout.specs.Answers.{refusalOf}
+use Rattle.command.specs.declared.Command.{Command}
+use Rattle.command.specs.declared.Command.the-variants.{LoadXf}
+use Rattle.command.specs.declared.Draw.the-variants.{Closed}
+use Rattle.command.specs.Command.{unit, waiting, kindOf, fieldOf, numbersOf}
+use Rattle.command.specs.Look.{descriptorOf}
+use Rattle.command.specs.Prefix.{Settled}
+use Rattle.writer.specs.Write.{commandBytes}
+use Rattle.writer.specs.Widths.{Typed, reported}
+use Rattle.writer.specs.Back.{Writable, WordsFit}
+use Rattle.fifo.specs.Window.{Ready, sizeOf}
+use Rattle.processor.specs.State.{State}
+use Rattle.processor.specs.Gate.{gateOf}
+use Rattle.processor.specs.Step.{stepFound, stepOf}
+use Rattle.processor.specs.Run.{runOf}
+use Rattle.history.specs.Calls.{World, Call, feed, queue, countAt, after, fed, afterAll, fedAll, unitsAll, consumedBy, AllHarmless}
+use Rattle.history.specs.More.{NotWaiting, SameRun}
+
+-- "Over any feeds and steps with no window register written between, bytes accepted minus bytes consumed by answered units equals the
+-- change in count." (proofs/Conserved)
+abbrev pub Conserved : Type 0
+Conserved =
+    (w : World) (cs : List Call) → AllHarmless cs
+    → countAt (afterAll w cs) + consumedBy (unitsAll w cs) ≡ countAt w + length (fedAll w cs)
+
+-- "Answers other than waiting don't change when more bytes are fed." (proofs/Fed, and those below)
+abbrev pub StepFed : Type 0
+StepFed =
+    (w : World) (bytes : List ℕ) → Settled (stepFound (w .ring) (w .state))
+    → stepFound (after w (feed bytes) .ring) (after w (feed bytes) .state) ≡ stepFound (w .ring) (w .state)
+
+-- a run that ended by its limit or a refusal: the same answer, and the same units
+abbrev pub RunFed : Type 0
+RunFed =
+    (w : World) (bytes : List ℕ) → Octets (w .ring) → Octets bytes → (limit : ℕ) → NotWaiting (runOf (w .ring) limit (w .state) .stop)
+    → SameRun (w .ring) (runOf (w .ring) limit (w .state)) (after w (feed bytes) .ring)
+    (runOf (after w (feed bytes) .ring) limit (after w (feed bytes) .state)) (fed w (feed bytes))
+
+-- "A full ring is never answered with waiting."
+abbrev pub FullNeverWaits : Type 0
+FullNeverWaits =
+    (w : World) → Ready (w .state .fifo) (length (w .ring)) → countAt w ≡ sizeOf (w .state .fifo .window) - 1
+    → (k : ℕ) → stepFound (w .ring) (w .state) ≡ waiting k → ⊥
+
+-- a command that the writer takes, "alone in a ring that passes 1 to 5 with no draw open"
+pub record WrittenAlone (w : World) (command : Command) (words : List ℕ) : Type 0 where
+  pub passes : gateOf (w .state) (length (w .ring)) ≡ 0
+  pub closed : w .state .draw ≡ Closed
+  pub typed : Typed command
+  pub taken : Writable (numbersOf command) words
+  pub alone : queue w ≡ commandBytes (numbersOf command) words
+
+-- "Stepping a written command .. gives it back, for a draw head unless 9 or 10."
+abbrev pub StepWritten : Type 0
+StepWritten =
+    (w : World) (command : Command) (words : List ℕ) → WrittenAlone w command words
+    → (kindOf (numbersOf command) ≡ 0x80 → refusalOf (descriptorOf (w .state .cp) (fieldOf (numbersOf command) 2)) ≡ 0)
+    → stepFound (w .ring) (w .state)
+    ≡ unit (numbersOf command) (reported (numbersOf command) (w .state .cp)) (length (commandBytes (numbersOf command) words))
+
+-- the same of an XF load's words: the lent ones are in the XF memory then, from its address on
+abbrev pub StepWords : Type 0
+StepWords =
+    (w : World) (n address : ℕ) (words : List ℕ) → WrittenAlone w (LoadXf n address) words → WordsFit words
+    → take n (drop address (stepOf (w .ring) (w .state) .xf)) ≡ words
+
+-- a state that passes 1 to 5 passes them after a run
+abbrev pub RunPasses : Type 0
+RunPasses =
+    (ring : List ℕ) → Octets ring → (limit : ℕ) (s : State) → gateOf s (length ring) ≡ 0
+    → gateOf (runOf ring limit s .state) (length ring) ≡ 0
