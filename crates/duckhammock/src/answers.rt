@@ -5,11 +5,11 @@ use fifo::Reading;
 use processor::StepAnswer;
 use processor::Stop;
 ghost use mathlib.Core.Path.{_≡_};
-ghost use Rattle.command.specs.Command.{numbersOf};
+ghost use Rattle.command.specs.Command.{unit, numbersOf};
 ghost use Rattle.fifo.specs.Answers.{meaningOf, meaningOfReading};
 ghost use Rattle.processor.specs.Step.{meaning};
 ghost use Rattle.processor.specs.Run.{meaningOfStop};
-ghost use Rattle.duckhammock.specs.Told.{firstOf, secondOf, indexedKind, commandWords, stepNumber, stepWords};
+ghost use Rattle.duckhammock.specs.Told.{firstOf, secondOf, indexedKind, stepNumber, stepWords};
 
 pub(crate) fn answer_number(answer: Answer) -> u32
     ensures { λ r. ⌜ r ≡ firstOf (meaningOf answer) ⌝ }
@@ -59,16 +59,16 @@ fn indexed_kind(array: u8) -> u32
     0x20 + 8 * (array as u32 - 12)
 }
 
-// The five numbers of a command.
-fn command_words(command: Command, memory: u32) -> [u32; 5]
-    ensures { λ r. ⌜ r ≡ commandWords (numbersOf command) memory ⌝ }
+// The six numbers of a unit: those of its command, and its bytes.
+fn unit_words(command: Command, memory: u32, n: u32) -> [u32; 6]
+    ensures { λ r. ⌜ r ≡ stepWords (unit (numbersOf command) memory n) ⌝ }
 {
     match command {
-        Command::NoOperation => [0x00, 0, 0, 0, 0],
-        Command::InvalidateCache => [0x48, 0, 0, 0, 0],
-        Command::Metrics => [0x68, 0, 0, 0, 0],
-        Command::LoadCp { address, number } => [0x08, address as u32, number, 0, 0],
-        Command::LoadXf { words, address } => [0x10, words as u32, address as u32, 0, 0],
+        Command::NoOperation => [0x00, 0, 0, 0, 0, n],
+        Command::InvalidateCache => [0x48, 0, 0, 0, 0, n],
+        Command::Metrics => [0x68, 0, 0, 0, 0, n],
+        Command::LoadCp { address, number } => [0x08, address as u32, number, 0, 0, n],
+        Command::LoadXf { words, address } => [0x10, words as u32, address as u32, 0, 0, n],
         Command::LoadIndexed {
             array,
             index,
@@ -80,19 +80,20 @@ fn command_words(command: Command, memory: u32) -> [u32; 5]
             words as u32,
             address as u32,
             memory,
+            n,
         ],
-        Command::CallList { address, size } => [0x40, address, size, 0, 0],
-        Command::LoadBp { register, number } => [0x61, register as u32, number, 0, 0],
+        Command::CallList { address, size } => [0x40, address, size, 0, 0, n],
+        Command::LoadBp { register, number } => [0x61, register as u32, number, 0, 0, n],
         Command::DrawHead {
             primitive,
             format,
             count,
-        } => [0x80, primitive as u32, format as u32, count as u32, 0],
-        Command::Vertex => [0x01, 0, 0, 0, 0],
+        } => [0x80, primitive as u32, format as u32, count as u32, 0, n],
+        Command::Vertex => [0x01, 0, 0, 0, 0, n],
     }
 }
 
-// A unit's command and its bytes, the bytes lacking, or zeros.
+// The numbers of a unit, the bytes lacking and zeros, or zeros.
 pub(crate) fn step_words(answer: StepAnswer) -> [u32; 6]
     ensures { λ r. ⌜ r ≡ stepWords (meaning answer) ⌝ }
 {
@@ -101,10 +102,7 @@ pub(crate) fn step_words(answer: StepAnswer) -> [u32; 6]
             command,
             memory,
             length,
-        } => {
-            let c = command_words(command, memory);
-            [c[0], c[1], c[2], c[3], c[4], length]
-        }
+        } => unit_words(command, memory, length),
         StepAnswer::Waiting(lacking) => [lacking, 0, 0, 0, 0, 0],
         StepAnswer::Refused(_) => [0, 0, 0, 0, 0, 0],
     }
