@@ -54,7 +54,7 @@ module _ (l : List ℕ) {f : Fifo} {r : Registers} (of-fifo : f ≡ fifoOf l) (o
 
   pub tells : (ring xf vertex : List ℕ) {a w xf' vertex' : List ℕ} {n : ℕ} {c : Stepped} → Steps ring (stateOf f r xf vertex) c xf' vertex'
       → n ≡ stepNumber (meaning (c .answer)) → a ≡ stepWords (meaning (c .answer)) → w ≡ wordsBy (c .fifo) (c .registers)
-      → Tells (stepFound ring (stateAt l xf vertex)) (stepOf ring (stateAt l xf vertex)) n a w xf' vertex'
+      → Tells ring (stateAt l xf vertex) n a w xf' vertex'
   tells ring xf vertex h p q e =
       let found = h .answer-is ∙ ap (λ (x : State). stepFound ring x) (state-is xf vertex) in
       let left = h .state-is ∙ ap (λ (x : State). stepOf ring x) (state-is xf vertex) in

@@ -14,11 +14,12 @@ use Rattle.fifo.specs.Feeding.{put}
 use Rattle.processor.specs.declared.Registers.{Registers}
 use Rattle.duckhammock.specs.State.{drawOf, cpOf, bpOf, registersOf, fifoWords, drawWords, wordsBy}
 
--- a list stored over all of another
+-- a list stored over all of another of its length
 pub put-whole : (d l : List ℕ) → length l ≡ length d → put d 0 l ≡ l
 put-whole d l e =
     ap (λ (x : List ℕ). l ++ x) (drop-of-length-le d {i = 0 + length l} (omega arith)) ∙ append-nil l
 
+-- as many values as another list has, from a place on, stored over all of it
 pub filled : (d l : List ℕ) (at : ℕ) {out : List ℕ} → at + length d ≤ length l → out ≡ put d 0 (take (at + length d - at) (drop at l))
     → out ≡ take (length d) (drop at l)
 filled d l at h e =
@@ -26,6 +27,7 @@ filled d l at h e =
     let k : length (take (length d) (drop at l)) ≡ length d = length-take-le (length d) (drop at l) (omega (arith, length-drop at l)) in
     e ∙ ap (λ (x : ℕ). put d 0 (take x (drop at l))) n ∙ put-whole d (take (length d) (drop at l)) k
 
+-- the registers, from each part of the words
 pub registers-are : (l : List ℕ) {cp bp : List ℕ} {draw : Draw} → cp ≡ take 60 (drop 11 l) → bp ≡ take 256 (drop 71 l) → draw ≡ drawOf l
     → _≡_ {A = Registers} (record { cp = cp; bp = bp; draw = draw }) (registersOf l)
 unfolding cpOf bpOf
@@ -68,14 +70,18 @@ module _ (f : Fifo) (r : Registers) (cp-length : length (r .cp) ≡ 60) (bp-leng
         length-append (r .bp) [],
       )
 
-  pub saved : (d : List ℕ) {front drawn once twice thrice out : List ℕ} → length d ≡ 327 → front ≡ fifoWords f → drawn ≡ drawWords (r .draw)
-      → once ≡ put d 0 front → twice ≡ put once 7 drawn → thrice ≡ put twice 11 (r .cp) → out ≡ put thrice 71 (r .bp) → out ≡ wordsBy f r
+  pub saved : (d : List ℕ) {front drawn once twice thrice out : List ℕ} → length d ≡ 327
+      → front ≡ fifoWords f → drawn ≡ drawWords (r .draw)
+      → once ≡ put d 0 front → twice ≡ put once 7 drawn → thrice ≡ put twice 11 (r .cp) → out ≡ put thrice 71 (r .bp)
+      → out ≡ wordsBy f r
   unfolding all
   saved d {front} {drawn} {once} h of-front of-drawn e1 e2 e3 e4 =
       let n = draw-length (r .draw) in
       let p0 : Pieces all d d 0 all = pieces-none all d (le-of-eq (all-length ∙ sym h)) in
-      let p1 = next-piece {end = 7} (fifoWords f) (drawWords (r .draw) ++ (r .cp ++ (r .bp ++ []))) p0 (e1 ∙ ap (λ (x : List ℕ). put d 0 x) of-front) refl in
-      let p2 = next-piece {end = 11} (drawWords (r .draw)) (r .cp ++ (r .bp ++ [])) p1 (e2 ∙ ap (λ (x : List ℕ). put once 7 x) of-drawn) (omega arith) in
+      let f1 = e1 ∙ ap (λ (x : List ℕ). put d 0 x) of-front in
+      let f2 = e2 ∙ ap (λ (x : List ℕ). put once 7 x) of-drawn in
+      let p1 = next-piece {end = 7} (fifoWords f) (drawWords (r .draw) ++ (r .cp ++ (r .bp ++ []))) p0 f1 refl in
+      let p2 = next-piece {end = 11} (drawWords (r .draw)) (r .cp ++ (r .bp ++ [])) p1 f2 (omega arith) in
       let p3 = next-piece {end = 71} (r .cp) (r .bp ++ []) p2 e3 (omega arith) in
       let p4 = next-piece {end = 327} (r .bp) [] p3 e4 (omega arith) in
       pieces-all p4

@@ -1,11 +1,10 @@
--- What each call answers and leaves in what it was lent. Whatever words a state was given in, a call leaves it in its own words (`wordsBy`).
+-- What each call answers and leaves in what it was lent. Whatever words a state was given in, a call leaves it in the words of `wordsBy`.
 use mathlib.Core.Path.{_≡_}
 use mathlib.Core.Bool.{cond}
 use mathlib.Core.List.{List, [], _∷_}
 use Prim.Native.Nat.{ℕ}
 use lib.ListN.{length, drop, replicate}
 use Rattle.laws.specs.Values.{upTo}
-use Rattle.command.specs.Command.{Found}
 use Rattle.layout.specs.declared.Descriptor.{Descriptor}
 use Rattle.layout.specs.Sizes.{sizeOf, offsetOf}
 use Rattle.layout.specs.Answers.{refusalOf, acceptedOf, lengthOf}
@@ -13,6 +12,7 @@ use Rattle.vertex.specs.Answers.{decodingOf}
 use Rattle.fifo.specs.Feeding.{feedRefusal, fifoAfter, ringAfter}
 use Rattle.fifo.specs.Registers.{readAnswer, writeAnswer, written}
 use Rattle.processor.specs.State.{State, drawingOf}
+use Rattle.processor.specs.Step.{stepFound, stepOf}
 use Rattle.processor.specs.Run.{Ended}
 use Rattle.duckhammock.specs.State.{fifoOf, drawOf, registersOf, wordsBy, wordsOf}
 use Rattle.duckhammock.specs.Told.{firstOf, secondOf, padded, stepNumber, stepWords}
@@ -33,13 +33,13 @@ pub record Feeds (words ring bytes : List ℕ) (r : ℕ) (words' ring' : List �
   pub state-is : words' ≡ wordsBy (fifoAfter (fifoOf words) ring bytes) (registersOf words)
   pub ring-is : ring' ≡ ringAfter (fifoOf words) ring bytes
 
--- a step that found this and left the state s
-pub record Tells (found : Found) (s : State) (r : ℕ) (answer words' xf' vertex' : List ℕ) : Type 0 where
-  pub answer-is : r ≡ stepNumber found
-  pub told-are : answer ≡ stepWords found
-  pub state-is : words' ≡ wordsOf s
-  pub xf-is : xf' ≡ s .xf
-  pub vertex-is : vertex' ≡ s .buffer
+-- a step at the state s
+pub record Tells (ring : List ℕ) (s : State) (r : ℕ) (answer words' xf' vertex' : List ℕ) : Type 0 where
+  pub answer-is : r ≡ stepNumber (stepFound ring s)
+  pub told-are : answer ≡ stepWords (stepFound ring s)
+  pub state-is : words' ≡ wordsOf (stepOf ring s)
+  pub xf-is : xf' ≡ stepOf ring s .xf
+  pub vertex-is : vertex' ≡ stepOf ring s .buffer
 
 -- a run that ended so: the units done, and the bytes lacking, 0 unless waiting
 pub record Ends (e : Ended) (r : ℕ) (answer words' xf' vertex' : List ℕ) : Type 0 where

@@ -1,10 +1,11 @@
 -- The state as 327 words: 0 start, 1 end, 2 high mark, 3 low mark, 4 write pointer, 5 read pointer, 6 control, 7 draw open, 8 primitive,
 -- 9 format, 10 vertices left, 11 to 70 the CP registers, 71 to 326 the BP registers.
+use mathlib.Core.Path.{_≡_}
 use mathlib.Core.Bool.{cond}
 use mathlib.Core.List.{List, [], _∷_, _++_}
-use Prim.Native.Nat.{ℕ, _%_, _^_}
+use Prim.Native.Nat.{ℕ, _%_, _^_, _<_}
 use lib.Dec.{eqb}
-use lib.ListN.{getD, take, drop}
+use lib.ListN.{length, getD, take, drop}
 use Rattle.command.specs.declared.Draw.{Draw}
 use Rattle.command.specs.declared.Draw.the-variants.{Closed, Open}
 use Rattle.fifo.specs.declared.Window.{Window}
@@ -59,3 +60,15 @@ wordsOf s = wordsBy (s .fifo) (record { cp = s .cp; bp = s .bp; draw = s .draw }
 -- the words of the fresh state
 abbrev pub freshWords : List ℕ
 freshWords = wordsBy (freshMachine .fifo) (freshMachine .registers)
+
+-- ---- states whose numbers fit their fields
+
+abbrev pub HoldsDraw : Draw → Type 0
+HoldsDraw Closed = Unit {0}
+HoldsDraw (Open primitive format left) = (primitive < 2 ^ 8) × (format < 2 ^ 8) × (left < 2 ^ 16)
+
+pub record Holds (s : State) : Type 0 where
+  pub control : s .fifo .control < 2 ^ 16
+  pub cp-length : length (s .cp) ≡ 60
+  pub bp-length : length (s .bp) ≡ 256
+  pub of-draw : HoldsDraw (s .draw)

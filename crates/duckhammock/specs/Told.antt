@@ -22,7 +22,7 @@ padded n l = take n (l ++ replicate n 0)
 abbrev pub indexedKind : ℕ → ℕ
 indexedKind array = 0x20 + 8 * (array - 12)
 
--- a command as five numbers: the kind, a, b, c, d; of an indexed load the opcode, the index, the words, the XF address and the memory address
+-- a command as five numbers: the kind, a, b, c, d; of an indexed load the opcode, the index, the words, the XF address, the memory address
 abbrev pub commandWords : List ℕ → ℕ → List ℕ
 commandWords c memory =
     cond (eqb (kindOf c) 0x20) (indexedKind (fieldOf c 1) ∷ fieldOf c 2 ∷ fieldOf c 3 ∷ fieldOf c 4 ∷ memory ∷ []) (padded 5 c)

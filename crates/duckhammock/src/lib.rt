@@ -1,9 +1,11 @@
 // The library's calls on numbers and slices, for C and Rust to link, and for the program `replay`.
 //
-// The state is 327 words that the caller keeps (specs/State.antt). A call that is lent them as `&mut` reads what they say, a number too large
-// for its field modulo the field's width, and leaves the words of the state after it, also where it is refused.
+// The state is 327 words that the caller keeps (specs/State.antt). A call that is lent them as `&mut` reads what they say, a number too
+// large for its field modulo the field's width, and leaves the words of the state after it, also where it is refused: a draw that is open
+// has 1 in word 7, and while none is open words 7 to 10 are 0.
 //
-// The number returned is 0 where the call was accepted, a unit was done or the limit was reached, 255 for waiting, and else the refusal's number.
+// The number returned is 0 where the call was accepted, a unit was done or the limit was reached, 255 for waiting, and else the refusal's
+// number.
 mod answers;
 mod attributes;
 mod words;
@@ -11,7 +13,6 @@ mod words;
 use layout::LayoutAnswer;
 ghost use mathlib.Core.Path.{_≡_};
 ghost use Rattle.layout.specs.Answers.{meaning};
-ghost use Rattle.processor.specs.Step.{stepFound, stepOf};
 ghost use Rattle.processor.specs.Run.{runOf};
 ghost use Rattle.duckhammock.specs.State.{stateAt, freshWords};
 ghost use Rattle.duckhammock.specs.Told.{firstOf, descriptorOf};
@@ -68,7 +69,8 @@ pub extern "C" fn duckhammock_feed(state: &mut [u32; 327], ring: &mut [u8], byte
     answers::answer_number(answer)
 }
 
-// Takes one unit. Its six numbers: of a unit the kind, a, b, c, d and its bytes; of waiting the bytes lacking, then zeros; of a refusal zeros.
+// Takes one unit. Its six numbers: of a unit the kind, a, b, c, d and its bytes; of waiting the bytes lacking, then zeros; of a refusal
+// zeros.
 #[no_mangle]
 pub extern "C" fn duckhammock_step(
     state: &mut [u32; 327],
@@ -77,7 +79,8 @@ pub extern "C" fn duckhammock_step(
     vertex: &mut [u8],
     answer: &mut [u32; 6],
 ) -> u32
-    ensures { λ r. ⌜ Tells (stepFound (now (ring .entry)) (stateAt (now (state .entry)) (now (xf .entry)) (now (vertex .entry)))) (stepOf (now (ring .entry)) (stateAt (now (state .entry)) (now (xf .entry)) (now (vertex .entry)))) r (now (answer .exit)) (now (state .exit)) (now (xf .exit)) (now (vertex .exit)) ⌝ }
+    ensures { λ r. ⌜ Tells (now (ring .entry)) (stateAt (now (state .entry)) (now (xf .entry)) (now (vertex .entry)))
+        r (now (answer .exit)) (now (state .exit)) (now (xf .exit)) (now (vertex .exit)) ⌝ }
 {
     let fifo = words::load_fifo(state);
     let registers = words::load_registers(state);
@@ -100,7 +103,8 @@ pub extern "C" fn duckhammock_run(
     limit: u32,
     answer: &mut [u32; 2],
 ) -> u32
-    ensures { λ r. ⌜ Ends (runOf (now (ring .entry)) limit (stateAt (now (state .entry)) (now (xf .entry)) (now (vertex .entry)))) r (now (answer .exit)) (now (state .exit)) (now (xf .exit)) (now (vertex .exit)) ⌝ }
+    ensures { λ r. ⌜ Ends (runOf (now (ring .entry)) limit (stateAt (now (state .entry)) (now (xf .entry)) (now (vertex .entry))))
+        r (now (answer .exit)) (now (state .exit)) (now (xf .exit)) (now (vertex .exit)) ⌝ }
 {
     let fifo = words::load_fifo(state);
     let registers = words::load_registers(state);

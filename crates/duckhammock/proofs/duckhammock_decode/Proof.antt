@@ -18,7 +18,10 @@ decoding-number-requires : tie.Need-decoding-number-requires
 decoding-number-requires c κs = search needs
 
 returns : tie.Need-returns
-returns c = rw (sym (c .before .before .before .descriptor .ensures)) (gives (c .before .before .decode .ensures) (c .decoding-number .ensures) (c .before .decoding-words .ensures))
+returns c =
+    let k = c .before .before in
+    rw (sym (k .before .descriptor .ensures))
+    (gives (k .decode .ensures) (c .decoding-number .ensures) (c .before .decoding-words .ensures))
 
 pub duckhammock-decode-spec : {M : Type 1} → statement M
 duckhammock-decode-spec =

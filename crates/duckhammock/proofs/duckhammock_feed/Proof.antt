@@ -23,7 +23,10 @@ same-length : tie.Need-same-length
 same-length c = search needs
 
 returns : tie.Need-returns
-returns c = feeds _ (c .before .before .before .before .before .before .before .before .before .before .load-fifo .ensures) (c .before .before .before .before .before .before .before .before .load-registers .ensures) (c .before .before .before .before .before .before .feed .ensures) (c .answer-number .ensures) (c .before .save .ensures)
+returns c =
+    let k = c .before .before .before .before .before .before in
+    feeds _ (k .before .before .before .before .load-fifo .ensures) (k .before .before .load-registers .ensures) (k .feed .ensures)
+    (c .answer-number .ensures) (c .before .save .ensures)
 
 pub duckhammock-feed-spec : {M : Type 1} → statement M
 duckhammock-feed-spec =

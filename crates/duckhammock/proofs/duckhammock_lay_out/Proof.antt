@@ -15,7 +15,9 @@ layout-number-requires : tie.Need-layout-number-requires
 layout-number-requires c κs = search needs
 
 returns : tie.Need-returns
-returns c = rw (sym (c .before .before .before .before .descriptor .ensures)) (lays-out (c .before .before .before .lay-out .ensures) (c .layout-number .ensures))
+returns c =
+    let k = c .before .before .before in
+    rw (sym (k .before .descriptor .ensures)) (lays-out (k .lay-out .ensures) (c .layout-number .ensures))
 
 pub duckhammock-lay-out-spec : {M : Type 1} → statement M
 duckhammock-lay-out-spec =

@@ -20,7 +20,10 @@ reading-number-requires : tie.Need-reading-number-requires
 reading-number-requires c κs = search needs
 
 returns : tie.Need-returns
-returns c = reads _ (c .before .before .before .before .load-fifo .ensures) (c .before .before .before .load-registers .ensures) (c .before .before .read-register .ensures) (c .reading-number .ensures) (c .before .reading-value .ensures)
+returns c =
+    let k = c .before .before in
+    reads _ (k .before .before .load-fifo .ensures) (k .before .load-registers .ensures) (k .read-register .ensures)
+    (c .reading-number .ensures) (c .before .reading-value .ensures)
 
 pub duckhammock-read-register-spec : {M : Type 1} → statement M
 duckhammock-read-register-spec =

@@ -30,8 +30,11 @@ same-length-2 c = search needs
 
 returns : tie.Need-returns
 returns c =
-    let a = c .before .before .before .before .before .before .before .before .before .before .before .before .before .before .before .before .before .before .before .before .args in
-    ends _ (c .before .before .before .before .before .before .before .before .before .before .before .before .before .before .before .load-fifo .ensures) (c .before .before .before .before .before .before .before .before .before .before .before .before .before .load-registers .ensures) (a .ring .now) (a .xf .now) (a .vertex .now) (a .limit) (c .before .before .before .before .before .before .before .before .before .before .run .ensures) (c .stop-number .ensures) (c .before .stop-lacking .ensures) (c .before .before .save .ensures)
+    let k = c .before .before .before .before .before .before .before .before .before .before in
+    let a = k .before .before .before .before .before .before .before .before .before .before .args in
+    ends _ (k .before .before .before .before .before .load-fifo .ensures) (k .before .before .before .load-registers .ensures)
+    (a .ring .now) (a .xf .now) (a .vertex .now) (a .limit)
+    (k .run .ensures) (c .stop-number .ensures) (c .before .stop-lacking .ensures) (c .before .before .save .ensures)
 
 pub duckhammock-run-spec : {M : Type 1} → statement M
 duckhammock-run-spec =

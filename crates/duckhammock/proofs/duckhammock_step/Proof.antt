@@ -30,8 +30,11 @@ same-length-2 c = search needs
 
 returns : tie.Need-returns
 returns c =
-    let a = c .before .before .before .before .before .before .before .before .before .before .before .before .before .before .before .before .before .before .before .before .args in
-    tells _ (c .before .before .before .before .before .before .before .before .before .before .before .before .before .before .before .load-fifo .ensures) (c .before .before .before .before .before .before .before .before .before .before .before .before .before .load-registers .ensures) (a .ring .now) (a .xf .now) (a .vertex .now) (c .before .before .before .before .before .before .before .before .before .before .step .ensures) (c .step-number .ensures) (c .before .step-words .ensures) (c .before .before .save .ensures)
+    let k = c .before .before .before .before .before .before .before .before .before .before in
+    let a = k .before .before .before .before .before .before .before .before .before .before .args in
+    tells _ (k .before .before .before .before .before .load-fifo .ensures) (k .before .before .before .load-registers .ensures)
+    (a .ring .now) (a .xf .now) (a .vertex .now)
+    (k .step .ensures) (c .step-number .ensures) (c .before .step-words .ensures) (c .before .before .save .ensures)
 
 pub duckhammock-step-spec : {M : Type 1} → statement M
 duckhammock-step-spec =

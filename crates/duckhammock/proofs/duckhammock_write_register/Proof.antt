@@ -20,7 +20,10 @@ answer-number-requires : tie.Need-answer-number-requires
 answer-number-requires c κs = search needs
 
 returns : tie.Need-returns
-returns c = writes _ (c .before .before .before .before .before .before .before .load-fifo .ensures) (c .before .before .before .before .before .load-registers .ensures) (c .before .before .before .before .write-register .ensures) (c .answer-number .ensures) (c .before .save .ensures)
+returns c =
+    let k = c .before .before .before .before in
+    writes _ (k .before .before .before .load-fifo .ensures) (k .before .load-registers .ensures) (k .write-register .ensures)
+    (c .answer-number .ensures) (c .before .save .ensures)
 
 pub duckhammock-write-register-spec : {M : Type 1} → statement M
 duckhammock-write-register-spec =

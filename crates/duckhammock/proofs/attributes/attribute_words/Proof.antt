@@ -121,7 +121,9 @@ returns-8 : tie.Need-returns-8
 returns-8 c = rw (c .before .before .attribute7 .given .1, c .triple-words2 .ensures)
 
 returns-9 : tie.Need-returns-9
-returns-9 c = rw (c .before .before .before .before .attribute8 .given .1, c .triple-words5 .ensures, c .before .triple-words4 .ensures, c .before .before .triple-words3 .ensures)
+returns-9 c =
+    let u = c .before .before in
+    rw (u .before .before .attribute8 .given .1, c .triple-words5 .ensures, c .before .triple-words4 .ensures, u .triple-words3 .ensures)
 
 pub attribute-words-spec : {M : Type 1} → statement M
 attribute-words-spec =

@@ -20,7 +20,9 @@ fill-requires-2 : tie.Need-fill-requires-2
 fill-requires-2 c κs = search needs
 
 returns : tie.Need-returns
-returns c = registers-are _ (c .before .before .before .before .before .fill .ensures) (c .before .fill2 .ensures) (c .before .before .before .before .before .before .before .before .load-draw .ensures)
+returns c =
+    let k = c .before .before .before .before .before in
+    registers-are _ (k .fill .ensures) (c .before .fill2 .ensures) (k .before .before .before .load-draw .ensures)
 
 pub load-registers-spec : {M : Type 1} → statement M
 load-registers-spec =

@@ -1,10 +1,20 @@
 -- `duckhammock::words::save` meets its contract: the four pieces stand each behind the one before.
 use borrow.Author.Needs.{needs}
-use mathlib.Core.Path.{_≡_, sym, ap, _∙_}
+use mathlib.Core.Path.{_≡_}
 use lib.ListN.{length}
 use Rattle.duckhammock.proofs.Saving.{saved}
 use Rattle.duckhammock.proofs.words.save.Statement.{statement}
 use Rattle.duckhammock.proofs.words.save.Tie as tie
+
+-- the lengths of the arrays
+cp-length : (s : tie.Start) → length (s .args .registers .cp) ≡ 60
+cp-length s = search needs
+
+bp-length : (s : tie.Start) → length (s .args .registers .bp) ≡ 256
+bp-length s = search needs
+
+state-length : (k : tie.After-store-arg) → length (k .before .before .before .before .before .args .state .now) ≡ 327
+state-length k = search needs
 
 fifo-words-requires : tie.Need-fifo-words-requires
 fifo-words-requires c κs = search needs
@@ -28,18 +38,28 @@ slice-aggregate-store-3 : tie.Need-slice-aggregate-store-3
 slice-aggregate-store-3 c = search needs
 
 store-requires-3 : tie.Need-store-requires-3
-store-requires-3 c κs = let n : length (c .before .before .before .before .before .before .before .before .before .before .before .before .args .registers .cp) ≡ 60 = search needs in search needs
+store-requires-3 c κs =
+    let drawn = c .before .before .before .before .before .before .before .before .before .before in
+    let n = cp-length (drawn .before .before) in search needs
 
 slice-aggregate-store-4 : tie.Need-slice-aggregate-store-4
 slice-aggregate-store-4 c = search needs
 
 store-requires-4 : tie.Need-store-requires-4
-store-requires-4 c κs = let n : length (c .before .before .before .before .before .before .before .before .before .before .before .before .before .before .before .args .registers .bp) ≡ 256 = search needs in search needs
+store-requires-4 c κs =
+    let drawn = c .before .before .before .before .before .before .before .before .before .before .before .before .before in
+    let n = bp-length (drawn .before .before) in search needs
 
 returns : tie.Need-returns
 returns c =
-    let s = c .before .before .before .before .before .before .before .before .before .before .before .before .before .before .before .before in
-    saved (s .args .fifo) (s .args .registers) (search needs) (search needs) (s .args .state .now) (search needs) (c .before .before .before .before .before .before .before .before .before .before .before .before .before .before .before .fifo-words .ensures) (c .before .before .before .before .before .before .before .before .before .before .before .before .before .before .draw-words .ensures) (c .before .before .before .before .before .before .before .before .before .store .ensures) (c .before .before .before .before .before .before .store2 .ensures) (c .before .before .before .store3 .ensures) (c .store4 .ensures)
+    let third = c .before .before .before in
+    let second = third .before .before .before in
+    let first = second .before .before .before in
+    let drawn = first .before .before .before .before .before in
+    let s = drawn .before .before in
+    saved (s .args .fifo) (s .args .registers) (cp-length s) (bp-length s) (s .args .state .now) (state-length (first .before .before))
+    (drawn .before .fifo-words .ensures) (drawn .draw-words .ensures)
+    (first .store .ensures) (second .store2 .ensures) (third .store3 .ensures) (c .store4 .ensures)
 
 pub save-spec : {M : Type 1} → statement M
 save-spec =
