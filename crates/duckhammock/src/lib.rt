@@ -49,9 +49,9 @@ pub extern "C" fn duckhammock_write_register(state: &mut [u32; 327], offset: u16
     let fifo = words::load_fifo(state);
     let registers = words::load_registers(state);
     let changed = fifo::write_register(fifo, offset, value);
-    let after = changed.fifo;
+    let written = changed.fifo;
     let answer = changed.answer;
-    words::save(state, after, registers);
+    words::save(state, written, registers);
     answers::answer_number(answer)
 }
 
@@ -63,9 +63,9 @@ pub extern "C" fn duckhammock_feed(state: &mut [u32; 327], ring: &mut [u8], byte
     let fifo = words::load_fifo(state);
     let registers = words::load_registers(state);
     let changed = fifo::feed(fifo, ring, bytes);
-    let after = changed.fifo;
+    let fed = changed.fifo;
     let answer = changed.answer;
-    words::save(state, after, registers);
+    words::save(state, fed, registers);
     answers::answer_number(answer)
 }
 
@@ -109,10 +109,10 @@ pub extern "C" fn duckhammock_run(
     let fifo = words::load_fifo(state);
     let registers = words::load_registers(state);
     let ran = processor::run(fifo, registers, ring, xf, vertex, limit);
-    let after = ran.fifo;
-    let left = ran.registers;
+    let last = ran.fifo;
+    let held = ran.registers;
     let stop = ran.stop;
-    words::save(state, after, left);
+    words::save(state, last, held);
     let told = [ran.units, answers::stop_lacking(stop)];
     *answer = told;
     answers::stop_number(stop)
