@@ -1,17 +1,24 @@
 -- `duckhammock::words::load_draw` meets its contract: it tests word 7, and reads the words in their places.
 use borrow.Author.Needs.{needs}
 use mathlib.Core.Path.{_≡_}
+use mathlib.Core.List.{List}
+use Prim.Native.Nat.{ℕ}
+use lib.ListN.{getD}
 use borrow.Author.Tests.{eq-eqb, ne-eqb}
+use Rattle.command.specs.declared.Draw.the-variants.{Closed}
 use Rattle.duckhammock.specs.State.{drawOf}
 use Rattle.duckhammock.proofs.words.load_draw.Statement.{statement}
 use Rattle.duckhammock.proofs.words.load_draw.Tie as tie
+
+closed-draw : (l : List ℕ) → getD l 7 0 ≡ 0 → Closed ≡ drawOf l
+unfolding drawOf
+closed-draw l e = rw (eq-eqb _ _ e)
 
 element-copy-out-if1 : tie.Need-element-copy-out-if1
 element-copy-out-if1 c = search needs
 
 returns : tie.Need-returns
-unfolding drawOf
-returns c = rw (eq-eqb _ _ (c .if1 .taken))
+returns c = closed-draw _ (c .if1 .taken)
 
 element-copy-out-t4 : tie.Need-element-copy-out-t4
 element-copy-out-t4 c = search needs
