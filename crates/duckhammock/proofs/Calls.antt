@@ -1,5 +1,5 @@
 -- What each call promises, from what the functions that it calls promise: they were handed what the words say.
-use mathlib.Core.Path.{_≡_, refl, sym, ap, ap₂, _∙_}
+use mathlib.Core.Path.{_≡_, ap, ap₂, _∙_}
 use mathlib.Core.List.{List, [], _∷_}
 use Prim.Native.Nat.{ℕ}
 use lib.ListN.{length, drop}
@@ -7,7 +7,7 @@ use Rattle.layout.specs.declared.Descriptor.{Descriptor}
 use Rattle.layout.specs.declared.Layout.{Layout}
 use Rattle.layout.specs.Answers as layouts
 use Rattle.vertex.specs.declared.Answer.{Answer}
-use Rattle.vertex.specs.Answers.{Decodes, decodingOf}
+use Rattle.vertex.specs.Answers.{Decodes}
 use Rattle.vertex.specs.Answers as vertices
 use Rattle.fifo.specs.declared.Fifo.{Fifo}
 use Rattle.fifo.specs.declared.Changed.{Changed}

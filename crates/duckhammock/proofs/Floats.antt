@@ -1,8 +1,8 @@
 -- A float that differs from itself is the NaN, and every other is none.
 use mathlib.Core.Path.{_≡_, refl, sym, ap, _∙_}
-use mathlib.Core.Bool.{Bool, true, false, not, _&&_, _||_, false≢true}
+use mathlib.Core.Bool.{Bool, true, false, not, false≢true}
 use Prim.Native.Nat.{ℕ, _*_}
-use lib.Dec.{T, eqb}
+use lib.Dec.{T}
 use lib.Ieee.{Float, nan, inf, fin, ne, eq, isNan, level, up, down}
 use borrow.Author.Tests.{eq-eqb}
 

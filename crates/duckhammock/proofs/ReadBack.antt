@@ -1,17 +1,15 @@
 -- Reading the words of a state gives the state back, where its numbers fit their fields, as those of a program do.
-use mathlib.Core.Path.{_≡_, refl, ap, ap₂, _∙_}
-use mathlib.Core.List.{List, _++_}
-use Prim.Native.Nat.{ℕ, _%_, _^_, _<_}
+use mathlib.Core.Path.{_≡_, refl, ap, _∙_}
+use mathlib.Core.List.{List}
+use Prim.Native.Nat.{ℕ, _^_, _<_}
 use native.Mathlib.Nat.{mod-eq-of-lt, le-of-eq}
-use lib.ListN.{length, take, drop}
+use lib.ListN.{length, take}
 use lib.Seq.{take-at, drop-at, take-all}
 use Rattle.command.specs.declared.Draw.{Draw}
 use Rattle.command.specs.declared.Draw.the-variants.{Closed, Open}
 use Rattle.fifo.specs.declared.Fifo.{Fifo}
-use Rattle.processor.specs.declared.Registers.{Registers}
-use Rattle.processor.specs.State.{State, stateOf}
-use Rattle.duckhammock.specs.State.{fifoOf, drawOf, cpOf, bpOf, registersOf, stateAt, wordsBy, wordsOf, HoldsDraw, Holds}
-use Rattle.duckhammock.proofs.Saving.{registers-are}
+use Rattle.processor.specs.State.{State}
+use Rattle.duckhammock.specs.State.{fifoOf, drawOf, cpOf, bpOf, stateAt, wordsBy, wordsOf, HoldsDraw, Holds}
 
 module _ (f : Fifo) (cp bp : List ℕ) where
   words : Draw → List ℕ

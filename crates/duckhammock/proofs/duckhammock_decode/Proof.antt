@@ -1,6 +1,6 @@
 -- `duckhammock::duckhammock_decode` meets its contract: it decodes by the descriptor that the words say.
 use borrow.Author.Needs.{needs}
-use mathlib.Core.Path.{_≡_, sym}
+use mathlib.Core.Path.{sym}
 use Rattle.duckhammock.proofs.Calls.{gives}
 use Rattle.duckhammock.proofs.duckhammock_decode.Statement.{statement}
 use Rattle.duckhammock.proofs.duckhammock_decode.Tie as tie

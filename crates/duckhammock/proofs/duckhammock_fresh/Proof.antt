@@ -1,6 +1,6 @@
 -- `duckhammock::duckhammock_fresh` meets its contract: it saves the fresh machine.
 use borrow.Author.Needs.{needs}
-use mathlib.Core.Path.{_≡_, ap, _∙_}
+use mathlib.Core.Path.{ap, _∙_}
 use Rattle.processor.specs.declared.Machine.{Machine}
 use Rattle.duckhammock.specs.State.{wordsBy}
 use Rattle.duckhammock.proofs.duckhammock_fresh.Statement.{statement}

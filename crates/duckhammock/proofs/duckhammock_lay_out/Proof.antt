@@ -1,6 +1,6 @@
 -- `duckhammock::duckhammock_lay_out` meets its contract: it is the layout of the descriptor that the words say.
 use borrow.Author.Needs.{needs}
-use mathlib.Core.Path.{_≡_, sym}
+use mathlib.Core.Path.{sym}
 use Rattle.duckhammock.proofs.Calls.{lays-out}
 use Rattle.duckhammock.proofs.duckhammock_lay_out.Statement.{statement}
 use Rattle.duckhammock.proofs.duckhammock_lay_out.Tie as tie

@@ -1,7 +1,6 @@
 -- `duckhammock::attributes::bits` meets its contract: a float that differs from itself is the NaN, and no other is one.
 use borrow.Author.Needs.{needs}
-use mathlib.Core.Path.{_≡_, ap, sym}
-use lib.Ieee.{binary32, toBits}
+use lib.Ieee.{toBits}
 use Rattle.duckhammock.proofs.Floats.{differs-nan, same-number}
 use Rattle.duckhammock.proofs.attributes.bits.Statement.{statement}
 use Rattle.duckhammock.proofs.attributes.bits.Tie as tie

@@ -1,6 +1,6 @@
 -- `duckhammock::attributes::descriptor` meets its contract: it reads the words in their places.
 use borrow.Author.Needs.{needs}
-use mathlib.Core.Path.{_≡_, refl}
+use mathlib.Core.Path.{refl}
 use Rattle.duckhammock.specs.Told.{descriptorOf}
 use Rattle.duckhammock.proofs.attributes.descriptor.Statement.{statement}
 use Rattle.duckhammock.proofs.attributes.descriptor.Tie as tie

@@ -1,6 +1,6 @@
 -- `duckhammock::words::fifo_words` meets its contract: it lists the fields in their order.
 use borrow.Author.Needs.{needs}
-use mathlib.Core.Path.{_≡_, refl}
+use mathlib.Core.Path.{refl}
 use Rattle.duckhammock.proofs.words.fifo_words.Statement.{statement}
 use Rattle.duckhammock.proofs.words.fifo_words.Tie as tie
 

@@ -1,6 +1,6 @@
 -- `duckhammock::words::load_fifo` meets its contract: it reads the words in their places.
 use borrow.Author.Needs.{needs}
-use mathlib.Core.Path.{_≡_, refl}
+use mathlib.Core.Path.{refl}
 use Rattle.duckhammock.specs.State.{fifoOf}
 use Rattle.duckhammock.proofs.words.load_fifo.Statement.{statement}
 use Rattle.duckhammock.proofs.words.load_fifo.Tie as tie
