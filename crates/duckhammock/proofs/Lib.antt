@@ -1,0 +1,4 @@
+pub mod Saving
+pub mod Floats
+pub mod Calls
+pub mod ReadBack

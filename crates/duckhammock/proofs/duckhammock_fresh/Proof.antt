@@ -1,0 +1,19 @@
+-- `duckhammock::duckhammock_fresh` meets its contract: it saves the fresh machine.
+use borrow.Author.Needs.{needs}
+use mathlib.Core.Path.{ap, _∙_}
+use Rattle.processor.specs.declared.Machine.{Machine}
+use Rattle.duckhammock.specs.State.{wordsBy}
+use Rattle.duckhammock.proofs.duckhammock_fresh.Statement.{statement}
+use Rattle.duckhammock.proofs.duckhammock_fresh.Tie as tie
+
+fresh-requires : tie.Need-fresh-requires
+fresh-requires c κs = search needs
+
+save-requires : tie.Need-save-requires
+save-requires c κs = search needs
+
+returns : tie.Need-returns
+returns c = c .save .ensures ∙ ap (λ (m : Machine). wordsBy (m .fifo) (m .registers)) (c .before .before .before .before .fresh .ensures)
+
+pub duckhammock-fresh-spec : {M : Type 1} → statement M
+duckhammock-fresh-spec = tie.close (tie.spec fresh-requires save-requires returns)

@@ -1,0 +1,130 @@
+// The answers of the hardware registers, feeding, stepping and running as numbers: the answer byte, and the values beside it.
+use command::Command;
+use fifo::Answer;
+use fifo::Reading;
+use processor::StepAnswer;
+use processor::Stop;
+ghost use mathlib.Core.Path.{_≡_};
+ghost use Rattle.command.specs.Command.{unit, numbersOf};
+ghost use Rattle.fifo.specs.Answers.{meaningOf, meaningOfReading};
+ghost use Rattle.processor.specs.Step.{meaning};
+ghost use Rattle.processor.specs.Run.{meaningOfStop};
+ghost use Rattle.duckhammock.specs.Told.{firstOf, secondOf, indexedKind, stepNumber, stepWords};
+
+pub(crate) fn answer_number(answer: Answer) -> u32
+    ensures { λ r. ⌜ r ≡ firstOf (meaningOf answer) ⌝ }
+{
+    match answer {
+        Answer::Accepted => 0,
+        Answer::Refused(reason) => refusal::number(reason) as u32,
+    }
+}
+
+pub(crate) fn reading_number(reading: Reading) -> u32
+    ensures { λ r. ⌜ r ≡ firstOf (meaningOfReading reading) ⌝ }
+{
+    match reading {
+        Reading::Value(_) => 0,
+        Reading::Refused(reason) => refusal::number(reason) as u32,
+    }
+}
+
+// The value read, 0 where it is refused.
+pub(crate) fn reading_value(reading: Reading) -> u32
+    ensures { λ r. ⌜ r ≡ secondOf (meaningOfReading reading) ⌝ }
+{
+    match reading {
+        Reading::Value(value) => value as u32,
+        Reading::Refused(_) => 0,
+    }
+}
+
+pub(crate) fn step_number(answer: StepAnswer) -> u32
+    ensures { λ r. ⌜ r ≡ stepNumber (meaning answer) ⌝ }
+{
+    match answer {
+        StepAnswer::Done { .. } => 0,
+        StepAnswer::Waiting(_) => 255,
+        StepAnswer::Refused(reason) => refusal::number(reason) as u32,
+    }
+}
+
+// The opcode of an indexed load of an array.
+fn indexed_kind(array: u8) -> u32
+    ensures { λ r. ⌜ r ≡ indexedKind array ⌝ }
+{
+    if array < 12 {
+        return 0x20;
+    }
+    0x20 + 8 * (array as u32 - 12)
+}
+
+// The six numbers of a unit: those of its command, and its bytes.
+fn unit_words(command: Command, memory: u32, n: u32) -> [u32; 6]
+    ensures { λ r. ⌜ r ≡ stepWords (unit (numbersOf command) memory n) ⌝ }
+{
+    match command {
+        Command::NoOperation => [0x00, 0, 0, 0, 0, n],
+        Command::InvalidateCache => [0x48, 0, 0, 0, 0, n],
+        Command::Metrics => [0x68, 0, 0, 0, 0, n],
+        Command::LoadCp { address, number } => [0x08, address as u32, number, 0, 0, n],
+        Command::LoadXf { words, address } => [0x10, words as u32, address as u32, 0, 0, n],
+        Command::LoadIndexed {
+            array,
+            index,
+            words,
+            address,
+        } => [
+            indexed_kind(array),
+            index as u32,
+            words as u32,
+            address as u32,
+            memory,
+            n,
+        ],
+        Command::CallList { address, size } => [0x40, address, size, 0, 0, n],
+        Command::LoadBp { register, number } => [0x61, register as u32, number, 0, 0, n],
+        Command::DrawHead {
+            primitive,
+            format,
+            count,
+        } => [0x80, primitive as u32, format as u32, count as u32, 0, n],
+        Command::Vertex => [0x01, 0, 0, 0, 0, n],
+    }
+}
+
+// The numbers of a unit, the bytes lacking and zeros, or zeros.
+pub(crate) fn step_words(answer: StepAnswer) -> [u32; 6]
+    ensures { λ r. ⌜ r ≡ stepWords (meaning answer) ⌝ }
+{
+    match answer {
+        StepAnswer::Done {
+            command,
+            memory,
+            length,
+        } => unit_words(command, memory, length),
+        StepAnswer::Waiting(lacking) => [lacking, 0, 0, 0, 0, 0],
+        StepAnswer::Refused(_) => [0, 0, 0, 0, 0, 0],
+    }
+}
+
+pub(crate) fn stop_number(stop: Stop) -> u32
+    ensures { λ r. ⌜ r ≡ firstOf (meaningOfStop stop) ⌝ }
+{
+    match stop {
+        Stop::Limit => 0,
+        Stop::Waiting(_) => 255,
+        Stop::Refused(reason) => refusal::number(reason) as u32,
+    }
+}
+
+// The bytes lacking, 0 unless a run waits.
+pub(crate) fn stop_lacking(stop: Stop) -> u32
+    ensures { λ r. ⌜ r ≡ secondOf (meaningOfStop stop) ⌝ }
+{
+    match stop {
+        Stop::Limit => 0,
+        Stop::Waiting(lacking) => lacking,
+        Stop::Refused(_) => 0,
+    }
+}
