@@ -3,17 +3,17 @@ use crate::input;
 use crate::input::first_bytes;
 use crate::input::first_words;
 use crate::output;
-use crate::output::low;
 use command::Command;
 use refusal::Reason;
 use writer::Written;
 
-// A command from its five numbers, or none where one does not fit its field.
+// What the five numbers of a request say: a command, or none where the kind is none or a number does not fit its field.
 enum Named {
     Is(Command),
     Unfit,
 }
 
+// 08
 fn load_cp(address: u32, number: u32) -> Named {
     if 255 < address {
         return Named::Unfit;
@@ -22,6 +22,7 @@ fn load_cp(address: u32, number: u32) -> Named {
     Named::Is(Command::LoadCp { address, number })
 }
 
+// 10
 fn load_xf(words: u32, address: u32) -> Named {
     if 255 < words {
         return Named::Unfit;
@@ -34,6 +35,7 @@ fn load_xf(words: u32, address: u32) -> Named {
     Named::Is(Command::LoadXf { words, address })
 }
 
+// 20, 28, 30, 38
 fn load_indexed(array: u8, index: u32, words: u32, address: u32) -> Named {
     if 65535 < index {
         return Named::Unfit;
@@ -55,6 +57,7 @@ fn load_indexed(array: u8, index: u32, words: u32, address: u32) -> Named {
     })
 }
 
+// 61
 fn load_bp(register: u32, number: u32) -> Named {
     if 255 < register {
         return Named::Unfit;
@@ -63,6 +66,7 @@ fn load_bp(register: u32, number: u32) -> Named {
     Named::Is(Command::LoadBp { register, number })
 }
 
+// 80
 fn draw_head(primitive: u32, format: u32, count: u32) -> Named {
     if 255 < primitive {
         return Named::Unfit;
@@ -83,7 +87,7 @@ fn draw_head(primitive: u32, format: u32, count: u32) -> Named {
     })
 }
 
-// By its kind.
+// A command by its kind.
 fn command_of(kind: u32, a: u32, b: u32, c: u32) -> Named {
     match kind {
         0x00 => Named::Is(Command::NoOperation),
@@ -116,19 +120,7 @@ fn write(command: Named, words: &[u32], count: usize, out: &mut [u8], n: usize) 
     }
 }
 
-// Whether it was written, and in how many bytes; then the output.
-fn send(written: Written, out: &[u8], n: usize) -> bool {
-    let told = match written {
-        Written::Bytes(bytes) => output::send(&[0, low(bytes)]),
-        Written::Refused(reason) => output::send(&[refusal::number(reason)]),
-    };
-    if !told {
-        return false;
-    }
-    output::send_first(out, n)
-}
-
-// The words that stand beside a command, as many as are said.
+// Reads the words that stand beside a command.
 fn take_words(words: &mut [u32], count: u8) -> bool {
     let mut bytes = [0u8; 1020];
     if !input::take_first(&mut bytes, 4 * count as usize) {
@@ -158,5 +150,5 @@ pub fn serve() -> bool {
     let command = command_of(numbers[0], numbers[1], numbers[2], numbers[3]);
     let mut out = [0xEEu8; 255];
     let written = write(command, &words, count as usize, &mut out, n);
-    send(written, &out, n)
+    output::send_written(written, false, &out, n)
 }

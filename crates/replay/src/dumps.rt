@@ -1,9 +1,8 @@
 // Requests 40 to 43: what the program holds is told.
 use crate::input;
-use crate::input::least;
 use crate::output;
 
-// 41
+// 41: XF words, zeros past the end.
 fn dump_words(words: &[u32]) -> bool {
     let mut head = [0u8; 4];
     if !input::take(&mut head) {
@@ -21,20 +20,18 @@ fn send_zeros(n: usize) -> bool {
     output::send_first(&zeros, n)
 }
 
-// 42
+// 42: ring bytes, zeros past the end.
 fn dump_bytes(bytes: &[u8]) -> bool {
-    let mut head = [0u8; 4];
-    if !input::take(&mut head) {
+    let part = input::take_part(bytes.len());
+    let from = part.from;
+    let end = part.end;
+    if !part.whole {
         return false;
     }
-    let count = input::half(&head, 2) as usize;
-    let from = least(input::half(&head, 0) as usize, bytes.len());
-    let n = least(count, bytes.len() - from);
-    let end = from + n;
     if !output::send(&bytes[from..end]) {
         return false;
     }
-    send_zeros(count - n)
+    send_zeros(part.past)
 }
 
 // False where the program is to end.

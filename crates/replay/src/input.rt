@@ -67,6 +67,31 @@ pub fn five_words(bytes: &[u8]) -> [u32; 5] {
     ]
 }
 
+// A part of a list: from one place to another, and how many elements of it lie past the list's end.
+pub struct Part {
+    pub from: usize,
+    pub end: usize,
+    pub past: usize,
+    pub whole: bool,
+}
+
+// Reads a place and a count, and cuts them to a list of that length; `whole` is false where the request is cut short.
+pub fn take_part(length: usize) -> Part
+    ensures { λ r. ⌜ (r .from ≤ r .end) × (r .end ≤ length) ⌝ }
+{
+    let mut head = [0u8; 4];
+    let whole = take(&mut head);
+    let count = half(&head, 2) as usize;
+    let from = least(half(&head, 0) as usize, length);
+    let n = least(count, length - from);
+    Part {
+        from,
+        end: from + n,
+        past: count - n,
+        whole,
+    }
+}
+
 // Stores the first n words of the bytes, from a place of the words on; those past the end are dropped.
 pub fn store_words(words: &mut [u32], from: u32, bytes: &[u8], n: u16) {
     let mut i: u32 = 0;
@@ -76,6 +101,7 @@ pub fn store_words(words: &mut [u32], from: u32, bytes: &[u8], n: u16) {
     }
 }
 
+// Stores a word at a place, if that is there.
 fn store_word(words: &mut [u32], at: usize, value: u32) {
     if at < words.len() {
         words[at] = value;

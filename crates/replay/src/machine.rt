@@ -6,7 +6,7 @@ use crate::output;
 use crate::output::low;
 use crate::output::put_words;
 
-// 10
+// 10: reads a hardware register.
 fn read_register(state: &[u32; 327]) -> bool {
     let mut head = [0u8; 2];
     if !input::take(&mut head) {
@@ -17,7 +17,7 @@ fn read_register(state: &[u32; 327]) -> bool {
     output::send(&[low(answer), low(value / 256), low(value)])
 }
 
-// 11
+// 11: writes a hardware register.
 fn write_register(state: &mut [u32; 327]) -> bool {
     let mut head = [0u8; 4];
     if !input::take(&mut head) {
@@ -34,7 +34,7 @@ fn feed_first(state: &mut [u32; 327], ring: &mut [u8], bytes: &[u8], n: usize) -
     output::send_answer(duckhammock::duckhammock_feed(state, ring, &bytes[..n]))
 }
 
-// 12
+// 12: feeds.
 fn feed(state: &mut [u32; 327], ring: &mut [u8], bytes: &mut [u8]) -> bool {
     let mut head = [0u8; 2];
     if !input::take(&mut head) {
@@ -59,7 +59,7 @@ fn send_step(number: u32, answer: [u32; 6]) -> bool {
     }
 }
 
-// 13
+// 13: one unit.
 fn step(state: &mut [u32; 327], ring: &[u8], xf: &mut [u32], vertex: &mut [u8]) -> bool {
     let mut answer = [0u32; 6];
     let number = duckhammock::duckhammock_step(state, ring, xf, vertex, &mut answer);
@@ -77,7 +77,7 @@ fn send_run(number: u32, answer: [u32; 2]) -> bool {
     output::send_first(&out, 5)
 }
 
-// 14
+// 14: a run of units.
 fn run(state: &mut [u32; 327], ring: &[u8], xf: &mut [u32], vertex: &mut [u8]) -> bool {
     let mut head = [0u8; 2];
     if !input::take(&mut head) {
@@ -89,7 +89,7 @@ fn run(state: &mut [u32; 327], ring: &[u8], xf: &mut [u32], vertex: &mut [u8]) -
     send_run(number, answer)
 }
 
-// A request with what is lent to it.
+// A request, with all that is lent to it. False where the program is to end.
 fn serve_lent(
     code: u8,
     state: &mut [u32; 327],

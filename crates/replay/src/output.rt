@@ -2,13 +2,14 @@
 use crate::input::first_bytes;
 use crate::input::least;
 use libc::STDOUT_FILENO;
+use writer::Written;
 
 // A number's lowest byte.
 pub fn low(n: u32) -> u8 {
     (n % 256) as u8
 }
 
-// False where the output is closed.
+// Writes the bytes; false where the output is closed.
 pub fn send(bytes: &[u8]) -> bool {
     io::write_all(STDOUT_FILENO, bytes)
 }
@@ -31,6 +32,7 @@ pub fn put(out: &mut [u8], at: usize, byte: u8) {
     }
 }
 
+// Puts a word from a place on.
 fn put_word(out: &mut [u8], at: u32, word: u32) {
     let at = at as usize;
     put(out, at, low(word / 256 / 256 / 256));
@@ -84,4 +86,24 @@ pub fn send_words(words: &[u32], from: u16, count: u16) -> bool {
 // Sends the first n words, at most 300.
 pub fn send_list(words: &[u32], n: usize) -> bool {
     send_words(words, 0, least(n, 300) as u16)
+}
+
+// The answer 0 and a size, in two bytes or in one.
+fn send_size(size: u32, is_wide: bool) -> bool {
+    if is_wide {
+        return send(&[0, low(size / 256), low(size)]);
+    }
+    send(&[0, low(size)])
+}
+
+// Whether something was written, and in how many bytes; then the first n bytes of the output.
+pub fn send_written(written: Written, is_wide: bool, out: &[u8], n: usize) -> bool {
+    let told = match written {
+        Written::Bytes(size) => send_size(size, is_wide),
+        Written::Refused(reason) => send(&[refusal::number(reason)]),
+    };
+    if !told {
+        return false;
+    }
+    send_first(out, n)
 }

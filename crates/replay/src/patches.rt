@@ -4,7 +4,6 @@ use crate::input::first_bytes;
 use crate::input::first_words;
 use crate::input::least;
 use crate::output;
-use crate::output::low;
 use patch::Checked;
 use writer::Written;
 
@@ -53,6 +52,7 @@ fn take_patch(masks: &mut [u32], numbers: &mut [u32]) -> Sizes {
     sizes
 }
 
+// 0, or the refusal's number.
 fn checked(answer: Checked) -> u32 {
     match answer {
         Checked::Accepted => 0,
@@ -67,7 +67,7 @@ fn check_first(masks: &[u32], numbers: &[u32], sizes: Sizes) -> u32 {
     checked(patch::check(&masks[..m], &numbers[..n]))
 }
 
-// 30
+// 30: checks a patch.
 fn check() -> bool {
     let mut masks = [0u32; 300];
     let mut numbers = [0u32; 300];
@@ -128,7 +128,7 @@ fn send_merged(answer: u32, masks: &[u32], numbers: &[u32], sizes: Sizes) -> boo
     output::send_list(numbers, sizes.numbers)
 }
 
-// 31
+// 31: merges two patches.
 fn merge() -> bool {
     let mut a_masks = [0u32; 300];
     let mut a_numbers = [0u32; 300];
@@ -170,19 +170,7 @@ fn write_first(masks: &[u32], numbers: &[u32], sizes: Sizes, out: &mut [u8], n: 
     patch::write(&masks[..m], &numbers[..k], &mut out[..n])
 }
 
-// Whether it was written, and in how many bytes; then the output.
-fn send_written(written: Written, out: &[u8], n: usize) -> bool {
-    let told = match written {
-        Written::Bytes(bytes) => output::send(&[0, low(bytes / 256), low(bytes)]),
-        Written::Refused(reason) => output::send(&[refusal::number(reason)]),
-    };
-    if !told {
-        return false;
-    }
-    output::send_first(out, n)
-}
-
-// 32
+// 32: writes a patch.
 fn write() -> bool {
     let mut masks = [0u32; 300];
     let mut numbers = [0u32; 300];
@@ -197,7 +185,7 @@ fn write() -> bool {
     let n = input::half(&head, 0) as usize;
     let mut out = [0xEEu8; 2600];
     let written = write_first(&masks, &numbers, sizes, &mut out, n);
-    send_written(written, &out, n)
+    output::send_written(written, true, &out, n)
 }
 
 // False where the program is to end.

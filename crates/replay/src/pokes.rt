@@ -37,7 +37,7 @@ fn poke_word(state: &mut [u32; 327], at: usize, value: u32) {
     }
 }
 
-// 02
+// 02: one state word.
 fn poke_state(state: &mut [u32; 327]) -> bool {
     let mut head = [0u8; 6];
     if !input::take(&mut head) {
@@ -59,7 +59,7 @@ fn lend(lent: &mut [usize; 3]) -> bool {
     true
 }
 
-// The words from a place on to an end, at most 1,024.
+// Reads and stores the words from a place on to an end, at most 1,024.
 fn poke_piece(words: &mut [u32], at: u32, end: u32) -> bool {
     if end <= at {
         return true;
@@ -73,7 +73,7 @@ fn poke_piece(words: &mut [u32], at: u32, end: u32) -> bool {
     true
 }
 
-// 04
+// 04: XF words; those past the end are dropped.
 fn poke_words(words: &mut [u32]) -> bool {
     let mut head = [0u8; 4];
     if !input::take(&mut head) {
@@ -90,20 +90,18 @@ fn poke_words(words: &mut [u32]) -> bool {
     true
 }
 
-// 05, 06
+// 05, 06: bytes of the ring or of the vertex buffer; those past the end are dropped.
 fn poke_bytes(bytes: &mut [u8]) -> bool {
-    let mut head = [0u8; 4];
-    if !input::take(&mut head) {
+    let part = input::take_part(bytes.len());
+    let from = part.from;
+    let end = part.end;
+    if !part.whole {
         return false;
     }
-    let count = input::half(&head, 2) as usize;
-    let from = least(input::half(&head, 0) as usize, bytes.len());
-    let n = least(count, bytes.len() - from);
-    let end = from + n;
     if !input::take(&mut bytes[from..end]) {
         return false;
     }
-    input::skip(count - n)
+    input::skip(part.past)
 }
 
 // False where the program is to end.

@@ -18,7 +18,7 @@ fn put_layout(out: &mut [u8], sizes: [u8; 21], offsets: [u8; 21]) {
     }
 }
 
-// 20
+// 20: the layout of a vertex.
 fn lay_out() -> bool {
     let mut head = [0u8; 20];
     if !input::take(&mut head) {
@@ -51,7 +51,7 @@ fn send_attribute(answer: [u32; 10]) -> bool {
     send_nine(answer[0], &answer, 1)
 }
 
-// 21
+// 21: an attribute decoded.
 fn decode(words: [u32; 5], attribute: u8, vertex: &[u8]) -> bool {
     let mut answer = [0u32; 10];
     let number = duckhammock::duckhammock_decode(&words, attribute as u32, vertex, &mut answer);
@@ -61,7 +61,7 @@ fn decode(words: [u32; 5], attribute: u8, vertex: &[u8]) -> bool {
     send_attribute(answer)
 }
 
-// 23
+// 23: the patterns of an attribute's f32 components.
 fn raw_words(words: [u32; 5], attribute: u8, vertex: &[u8]) -> bool {
     let descriptor = Descriptor {
         vcd0: words[0],
@@ -88,7 +88,7 @@ fn serve_first(code: u8, words: [u32; 5], attribute: u8, vertex: &[u8], n: usize
     raw_words(words, attribute, &vertex[..n])
 }
 
-// 21, 23
+// 21, 23: an attribute of a vertex.
 fn serve_attribute(code: u8) -> bool {
     let mut head = [0u8; 22];
     if !input::take(&mut head) {

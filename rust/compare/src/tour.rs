@@ -70,7 +70,8 @@ fn stream(script: &mut Script) {
     script.feed(&[0x40, 0, 0, 0x20, 0, 0, 0, 1, 0, 0x00, 0x48, 0x68, 0x61]);
     script.run(0);
     script.step();
-    script.run(3);
+    script.run(2);
+    script.step();
     script.step();
     script.step();
     script.step();
@@ -90,7 +91,8 @@ fn draw(script: &mut Script) {
     // Position and colour, 16 bytes; format 3.
     script.feed(&[0x08, 0x50, 0, 0, 0x22, 0, 0x08, 0x73, 0, 1, 0x40, 0x09]);
     script.feed(&[0x93, 0, 3]);
-    script.run(3);
+    script.run(2);
+    script.step();
     script.read(0x000);
     script.step();
     let vertex: Vec<u8> = (1..=16).collect();
@@ -98,15 +100,16 @@ fn draw(script: &mut Script) {
     script.step();
     script.feed(&vertex[..15]);
     script.step();
-    script.feed(&vertex[..13]);
+    script.feed(&[0xFF]);
     script.step();
     script.dump_vertex();
+    script.dump_state();
     script.feed(&vertex);
     script.run(2);
     script.read(0x000);
-    script.run(14);
+    // No vertex: no draw is open after it.
     script.feed(&[0x93, 0, 0]);
-    script.run(20);
+    script.step();
     script.dump_state();
 }
 
@@ -345,4 +348,35 @@ fn refused_sheets(script: &mut Script) {
     script.check_sheet(&short);
     script.merge_sheets(&short, &good, 256, 1);
     script.write_sheet(&short, 5000);
+}
+
+#[cfg(test)]
+mod tests {
+    use super::tour;
+    use crate::programs::Comparison;
+    use crate::tally::Tally;
+
+    const STDIN: &[u8] = include_bytes!("../../../crates/replay/stdin");
+    const STDOUT: &[u8] = include_bytes!("../../../crates/replay/stdout");
+
+    #[test]
+    fn the_program_is_run_on_this_script() {
+        assert!(tour().bytes == STDIN);
+    }
+
+    #[test]
+    fn every_request_and_every_answer_is_in_it() {
+        let mut tally = Tally::default();
+        let mut comparison = Comparison {
+            script: STDIN,
+            outputs: [STDOUT, STDOUT],
+            free_lacking: false,
+            lacking_differed: 0,
+        };
+        assert!(comparison.walk(&mut tally).is_none());
+        tally.print();
+        assert!(tally.unmade().is_empty());
+        assert!(tally.unreached().is_empty());
+        assert!(tally.of_answer(0) > 0 && tally.of_answer(255) > 0);
+    }
 }
