@@ -4,11 +4,11 @@ use crate::output;
 
 // 41: XF words, zeros past the end.
 fn dump_words(words: &[u32]) -> bool {
-    let mut head = [0u8; 4];
-    if !input::take(&mut head) {
+    let pair = input::take_pair();
+    if !pair.whole {
         return false;
     }
-    output::send_words(words, input::half(&head, 0), input::half(&head, 2))
+    output::send_words(words, pair.first, pair.second)
 }
 
 // Sends so many zeros, at most 65,536.

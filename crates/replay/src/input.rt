@@ -67,6 +67,40 @@ pub fn five_words(bytes: &[u8]) -> [u32; 5] {
     ]
 }
 
+// A 16-bit number of a request; `whole` is false where the request is cut short, here and below.
+pub struct Number {
+    pub value: u16,
+    pub whole: bool,
+}
+
+// Reads a 16-bit number.
+pub fn take_half() -> Number {
+    let mut bytes = [0u8; 2];
+    let whole = take(&mut bytes);
+    Number {
+        value: half(&bytes, 0),
+        whole,
+    }
+}
+
+// Two 16-bit numbers of a request.
+pub struct Pair {
+    pub first: u16,
+    pub second: u16,
+    pub whole: bool,
+}
+
+// Reads two 16-bit numbers.
+pub fn take_pair() -> Pair {
+    let mut bytes = [0u8; 4];
+    let whole = take(&mut bytes);
+    Pair {
+        first: half(&bytes, 0),
+        second: half(&bytes, 2),
+        whole,
+    }
+}
+
 // A part of a list: from one place to another, and how many elements of it lie past the list's end.
 pub struct Part {
     pub from: usize,
@@ -75,20 +109,19 @@ pub struct Part {
     pub whole: bool,
 }
 
-// Reads a place and a count, and cuts them to a list of that length; `whole` is false where the request is cut short.
+// Reads a place and a count, and cuts them to a list of that length.
 pub fn take_part(length: usize) -> Part
     ensures { λ r. ⌜ (r .from ≤ r .end) × (r .end ≤ length) ⌝ }
 {
-    let mut head = [0u8; 4];
-    let whole = take(&mut head);
-    let count = half(&head, 2) as usize;
-    let from = least(half(&head, 0) as usize, length);
+    let pair = take_pair();
+    let count = pair.second as usize;
+    let from = least(pair.first as usize, length);
     let n = least(count, length - from);
     Part {
         from,
         end: from + n,
         past: count - n,
-        whole,
+        whole: pair.whole,
     }
 }
 

@@ -8,24 +8,22 @@ use crate::output::put_words;
 
 // 10: reads a hardware register.
 fn read_register(state: &[u32; 327]) -> bool {
-    let mut head = [0u8; 2];
-    if !input::take(&mut head) {
+    let offset = input::take_half();
+    if !offset.whole {
         return false;
     }
     let mut value: u32 = 0;
-    let answer = duckhammock::duckhammock_read_register(state, input::half(&head, 0), &mut value);
+    let answer = duckhammock::duckhammock_read_register(state, offset.value, &mut value);
     output::send(&[low(answer), low(value / 256), low(value)])
 }
 
 // 11: writes a hardware register.
 fn write_register(state: &mut [u32; 327]) -> bool {
-    let mut head = [0u8; 4];
-    if !input::take(&mut head) {
+    let pair = input::take_pair();
+    if !pair.whole {
         return false;
     }
-    let offset = input::half(&head, 0);
-    let value = input::half(&head, 2);
-    output::send_answer(duckhammock::duckhammock_write_register(state, offset, value))
+    output::send_answer(duckhammock::duckhammock_write_register(state, pair.first, pair.second))
 }
 
 // Feeds the first n bytes.
@@ -35,16 +33,17 @@ fn feed_first(state: &mut [u32; 327], ring: &mut [u8], bytes: &[u8], n: usize) -
 }
 
 // 12: feeds.
-fn feed(state: &mut [u32; 327], ring: &mut [u8], bytes: &mut [u8]) -> bool {
-    let mut head = [0u8; 2];
-    if !input::take(&mut head) {
+fn feed(state: &mut [u32; 327], ring: &mut [u8]) -> bool {
+    let length = input::take_half();
+    if !length.whole {
         return false;
     }
-    let n = input::half(&head, 0) as usize;
-    if !input::take_first(bytes, n) {
+    let n = length.value as usize;
+    let mut bytes = io::large_buffer();
+    if !input::take_first(&mut bytes, n) {
         return false;
     }
-    feed_first(state, ring, bytes, n)
+    feed_first(state, ring, &bytes, n)
 }
 
 // The command of a unit, or the bytes lacking.
@@ -79,13 +78,13 @@ fn send_run(number: u32, answer: [u32; 2]) -> bool {
 
 // 14: a run of units.
 fn run(state: &mut [u32; 327], ring: &[u8], xf: &mut [u32], vertex: &mut [u8]) -> bool {
-    let mut head = [0u8; 2];
-    if !input::take(&mut head) {
+    let limit = input::take_half();
+    if !limit.whole {
         return false;
     }
-    let limit = input::half(&head, 0) as u32;
+    let most = limit.value as u32;
     let mut answer = [0u32; 2];
-    let number = duckhammock::duckhammock_run(state, ring, xf, vertex, limit, &mut answer);
+    let number = duckhammock::duckhammock_run(state, ring, xf, vertex, most, &mut answer);
     send_run(number, answer)
 }
 
@@ -96,12 +95,11 @@ fn serve_lent(
     ring: &mut [u8],
     xf: &mut [u32],
     vertex: &mut [u8],
-    bytes: &mut [u8],
 ) -> bool {
     match code {
         0x10 => read_register(state),
         0x11 => write_register(state),
-        0x12 => feed(state, ring, bytes),
+        0x12 => feed(state, ring),
         0x13 => step(state, ring, xf, vertex),
         0x14 => run(state, ring, xf, vertex),
         _ => false,
@@ -116,17 +114,9 @@ pub fn serve(
     xf: &mut [u32],
     vertex: &mut [u8],
     lent: &[usize; 3],
-    bytes: &mut [u8],
 ) -> bool {
     let r = first_bytes(lent[0], ring);
     let x = first_words(lent[1], xf);
     let v = first_bytes(lent[2], vertex);
-    serve_lent(
-        code,
-        state,
-        &mut ring[..r],
-        &mut xf[..x],
-        &mut vertex[..v],
-        bytes,
-    )
+    serve_lent(code, state, &mut ring[..r], &mut xf[..x], &mut vertex[..v])
 }

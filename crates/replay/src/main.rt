@@ -15,7 +15,6 @@ fn serve(
     xf: &mut [u32],
     vertex: &mut [u8],
     lent: &mut [usize; 3],
-    bytes: &mut [u8],
 ) -> bool {
     let mut head = [0u8; 1];
     if !input::take(&mut head) {
@@ -24,7 +23,7 @@ fn serve(
     let code = octets::byte(&head, 0);
     match code {
         0x00..=0x0F => pokes::serve(code, state, ring, xf, vertex, lent),
-        0x10..=0x1F => machine::serve(code, state, ring, xf, vertex, lent, bytes),
+        0x10..=0x1F => machine::serve(code, state, ring, xf, vertex, lent),
         0x22 => commands::serve(),
         0x20..=0x2F => vertices::serve(code),
         0x30..=0x3F => patches::serve(code),
@@ -40,29 +39,20 @@ fn serve_all(
     xf: &mut [u32],
     vertex: &mut [u8],
     lent: &mut [usize; 3],
-    bytes: &mut [u8],
 ) {
     let mut turns = u64::MAX;
-    while turns > 0 && serve(state, ring, xf, vertex, lent, bytes) {
+    while turns > 0 && serve(state, ring, xf, vertex, lent) {
         turns -= 1;
     }
 }
 
-// The state, the ring, the XF words and the vertex buffer; how many of the last three are lent; and the bytes of a feed.
+// The state, the ring, the XF words and the vertex buffer; and how many of the last three are lent.
 fn main() {
     let mut state = [0u32; 327];
     let mut ring = [0u8; 65536];
     let mut xf = [0u32; 4200];
     let mut vertex = [0u8; 256];
     let mut lent = [256usize, 4184, 129];
-    let mut bytes = [0u8; 65536];
     duckhammock::duckhammock_fresh(&mut state);
-    serve_all(
-        &mut state,
-        &mut ring,
-        &mut xf,
-        &mut vertex,
-        &mut lent,
-        &mut bytes,
-    );
+    serve_all(&mut state, &mut ring, &mut xf, &mut vertex, &mut lent);
 }

@@ -19,11 +19,11 @@ const NONE: usize = 301;
 
 // Reads a list of words and gives how many there are.
 fn take_list(list: &mut [u32]) -> usize {
-    let mut head = [0u8; 2];
-    if !input::take(&mut head) {
+    let head = input::take_half();
+    if !head.whole {
         return NONE;
     }
-    let count = input::half(&head, 0);
+    let count = head.value;
     if 300 < count {
         return NONE;
     }
@@ -108,12 +108,11 @@ fn merge_first(
 
 // How many masks and numbers the result of a merge is to have, each at most 300.
 fn take_sizes() -> Sizes {
-    let mut head = [0u8; 4];
-    let whole = input::take(&mut head);
+    let pair = input::take_pair();
     Sizes {
-        masks: least(input::half(&head, 0) as usize, 300),
-        numbers: least(input::half(&head, 2) as usize, 300),
-        whole,
+        masks: least(pair.first as usize, 300),
+        numbers: least(pair.second as usize, 300),
+        whole: pair.whole,
     }
 }
 
@@ -178,11 +177,11 @@ fn write() -> bool {
     if !sizes.whole {
         return false;
     }
-    let mut head = [0u8; 2];
-    if !input::take(&mut head) {
+    let length = input::take_half();
+    if !length.whole {
         return false;
     }
-    let n = input::half(&head, 0) as usize;
+    let n = length.value as usize;
     let mut out = [0xEEu8; 2600];
     let written = write_first(&masks, &numbers, sizes, &mut out, n);
     output::send_written(written, true, &out, n)

@@ -75,12 +75,12 @@ fn poke_piece(words: &mut [u32], at: u32, end: u32) -> bool {
 
 // 04: XF words; those past the end are dropped.
 fn poke_words(words: &mut [u32]) -> bool {
-    let mut head = [0u8; 4];
-    if !input::take(&mut head) {
+    let pair = input::take_pair();
+    if !pair.whole {
         return false;
     }
-    let mut at = input::half(&head, 0) as u32;
-    let end = at + input::half(&head, 2) as u32;
+    let mut at = pair.first as u32;
+    let end = at + pair.second as u32;
     while at < end {
         if !poke_piece(words, at, end) {
             return false;

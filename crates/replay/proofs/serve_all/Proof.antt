@@ -6,10 +6,11 @@ use Rattle.replay.proofs.serve_all.Statement.{statement}
 use Rattle.replay.proofs.serve_all.Tie as tie
 
 abbrev Inv-loop : tie.InvT-loop
-Inv-loop state₀ ring₀ xf₀ vertex₀ lent₀ bytes₀ turns₀ state ring xf vertex lent bytes turns = (length ring ≡ length ring₀) × ((length xf ≡ length xf₀) × ((length vertex ≡ length vertex₀) × (length bytes ≡ length bytes₀)))
+Inv-loop state₀ ring₀ xf₀ vertex₀ lent₀ turns₀ state ring xf vertex lent turns =
+    (length ring ≡ length ring₀) × ((length xf ≡ length xf₀) × (length vertex ≡ length vertex₀))
 
 abbrev μ-loop : tie.MeasureT-loop
-μ-loop state₀ ring₀ xf₀ vertex₀ lent₀ bytes₀ turns₀ state ring xf vertex lent bytes turns = turns
+μ-loop state₀ ring₀ xf₀ vertex₀ lent₀ turns₀ state ring xf vertex lent turns = turns
 
 loop-holds : tie.Need-loop-holds Inv-loop μ-loop
 loop-holds c = search needs
@@ -35,23 +36,17 @@ same-length-2 c = search needs
 same-length-3 : tie.Need-same-length-3 Inv-loop μ-loop
 same-length-3 c = search needs
 
-same-length-4 : tie.Need-same-length-4 Inv-loop μ-loop
-same-length-4 c = search needs
-
 returns : tie.Need-returns Inv-loop μ-loop
 returns c = search needs
+
+same-length-4 : tie.Need-same-length-4 Inv-loop μ-loop
+same-length-4 c = search needs
 
 same-length-5 : tie.Need-same-length-5 Inv-loop μ-loop
 same-length-5 c = search needs
 
 same-length-6 : tie.Need-same-length-6 Inv-loop μ-loop
 same-length-6 c = search needs
-
-same-length-7 : tie.Need-same-length-7 Inv-loop μ-loop
-same-length-7 c = search needs
-
-same-length-8 : tie.Need-same-length-8 Inv-loop μ-loop
-same-length-8 c = search needs
 
 returns-2 : tie.Need-returns-2 Inv-loop μ-loop
 returns-2 c = search needs
@@ -70,10 +65,8 @@ serve-all-spec =
     same-length
     same-length-2
     same-length-3
-    same-length-4
     returns
+    same-length-4
     same-length-5
     same-length-6
-    same-length-7
-    same-length-8
     returns-2)

@@ -12,29 +12,14 @@ Inv-loop words₀ at₀ end words at = (end ≤ 131070) × (length words ≡ len
 abbrev μ-loop : tie.MeasureT-loop
 μ-loop words₀ at₀ end words at = end - at
 
-slice-aggregate-take : tie.Need-slice-aggregate-take Inv-loop μ-loop
-slice-aggregate-take c = search needs
-
-take-requires : tie.Need-take-requires Inv-loop μ-loop
-take-requires c κs = search needs
+take-pair-requires : tie.Need-take-pair-requires Inv-loop μ-loop
+take-pair-requires c κs = search needs
 
 returns : tie.Need-returns Inv-loop μ-loop
 returns c = search needs
 
-slice-aggregate-half : tie.Need-slice-aggregate-half Inv-loop μ-loop
-slice-aggregate-half c = search needs
-
-half-requires : tie.Need-half-requires Inv-loop μ-loop
-half-requires c κs = search needs
-
 cast-at : tie.Need-cast-at Inv-loop μ-loop
 cast-at c = search needs
-
-slice-aggregate-half-2 : tie.Need-slice-aggregate-half-2 Inv-loop μ-loop
-slice-aggregate-half-2 c = search needs
-
-half-requires-2 : tie.Need-half-requires-2 Inv-loop μ-loop
-half-requires-2 c κs = search needs
 
 cast-end : tie.Need-cast-end Inv-loop μ-loop
 cast-end c = search needs
@@ -75,14 +60,9 @@ poke-words-spec =
     (tie.spec
     Inv-loop
     μ-loop
-    slice-aggregate-take
-    take-requires
+    take-pair-requires
     returns
-    slice-aggregate-half
-    half-requires
     cast-at
-    slice-aggregate-half-2
-    half-requires-2
     cast-end
     add-end
     loop-holds
