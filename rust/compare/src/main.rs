@@ -12,6 +12,7 @@ mod script;
 mod soak;
 mod stream;
 mod tally;
+mod tour;
 
 use programs::{output_of, Comparison, Difference};
 use random::Random;
@@ -21,11 +22,13 @@ use tally::Tally;
 
 const USAGE: &str = "\
 usage: compare [options] PROGRAM PROGRAM
+       compare --tour FILE
   --seed N       the scripts' seed (1)
   --requests N   at least so many requests (10000; with --soak 1000000)
   --soak         random bytes instead of scenarios
   --save FILE    where a difference is found, write its script up to the request
   --free-lacking let the bytes lacking of waiting answers differ, and count them
+  --tour FILE    write the short script that makes every request, and run nothing
 PROGRAM reads a script on standard input and writes replies on standard output.";
 
 /// Requests of one script, each run by a new process.
@@ -38,6 +41,7 @@ struct Options {
     soak: bool,
     save: Option<String>,
     free_lacking: bool,
+    tour: Option<String>,
     programs: Vec<String>,
 }
 
@@ -48,6 +52,7 @@ fn options() -> Result<Options, String> {
         soak: false,
         save: None,
         free_lacking: false,
+        tour: None,
         programs: Vec::new(),
     };
     let mut arguments = std::env::args().skip(1);
@@ -57,13 +62,14 @@ fn options() -> Result<Options, String> {
             "--seed" => options.seed = number(&value()?)?,
             "--requests" => options.requests = Some(number(&value()?)?),
             "--save" => options.save = Some(value()?),
+            "--tour" => options.tour = Some(value()?),
             "--soak" => options.soak = true,
             "--free-lacking" => options.free_lacking = true,
             _ if argument.starts_with("--") => return Err(format!("{argument}: not an option")),
             _ => options.programs.push(argument),
         }
     }
-    if options.programs.len() == 2 {
+    if options.tour.is_some() || options.programs.len() == 2 {
         Ok(options)
     } else {
         Err("two programs are needed".to_string())
@@ -82,6 +88,15 @@ fn main() -> ExitCode {
             return ExitCode::from(2);
         }
     };
+    if let Some(path) = &options.tour {
+        return match std::fs::write(path, tour::tour().bytes) {
+            Ok(()) => ExitCode::SUCCESS,
+            Err(error) => {
+                eprintln!("{path}: {error}");
+                ExitCode::from(2)
+            }
+        };
+    }
     let mut tally = Tally::default();
     let same = compare(&options, &mut tally);
     tally.print();

@@ -62,6 +62,13 @@ impl Tally {
             .collect()
     }
 
+    /// The requests that no script made.
+    #[cfg(test)]
+    pub fn unmade(&self) -> Vec<u8> {
+        let made = |code: &u8| self.codes.contains_key(code);
+        CODES.into_iter().filter(|code| !made(code)).collect()
+    }
+
     pub fn print(&self) {
         println!("requests and their answers (0 accepted or done, W waiting):");
         for code in CODES {
