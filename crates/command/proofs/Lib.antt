@@ -5,4 +5,4 @@ pub mod Ranges
 pub mod Extends
 pub mod Prefix
 pub mod Meanings
-pub mod OpenDraw
+pub mod Decided
