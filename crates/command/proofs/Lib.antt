@@ -7,4 +7,4 @@ pub mod Prefix
 pub mod Promises
 pub mod Arrays
 pub mod Meanings
-pub mod OpenDraw
+pub mod Decided

@@ -2,11 +2,13 @@
 use mathlib.Core.Path.{_≡_, refl, sym, ap, _∙_}
 use mathlib.Core.Bool.{Bool, true, false, cond, _||_}
 use Prim.Native.Nat.{ℕ, zero, suc, _+_, _-_, _/_, _%_, _^_, _<_, _≤_}
-use native.Mathlib.Nat.{zero-div, zero-mod}
+use native.Mathlib.Nat.{zero-div, zero-mod, add-zero}
 use native.Mathlib.Omega.{arith}
 use lib.Dec.{T, leb, ltb}
 use lib.ListN.{getD}
 use borrow.Author.Tests.{lt-ltb, le-ltb, leb-true}
+use mathlib.Core.Logic.{⊎-elim}
+use Rattle.laws.proofs.Cases.{order}
 use Rattle.laws.proofs.Table.{at, both, both-left, both-right}
 use Rattle.layout.specs.declared.Descriptor.{Descriptor}
 use Rattle.layout.specs.Fields.{bitsAt, placeIn, modes, modeOf}
@@ -20,6 +22,24 @@ clear x t s w h e =
     sym (low-bits x t s w h) ∙ ap (λ (y : ℕ). y / 2 ^ s % 2 ^ w) e ∙ ap (λ (y : ℕ). y % 2 ^ w) (zero-div (2 ^ s)) ∙ zero-mod (2 ^ w)
 
 module _ (d : Descriptor) where
+  -- ---- an absent attribute
+
+  -- it has no bytes, a matrix or not
+  size-none : (k : ℕ) → modeOf d k ≡ 0 → sizeOf d k ≡ 0
+  size-none k m = ⊎-elim (λ h. size-matrix d k h ∙ m) (λ h. size-absent d k h m) (order k 9)
+
+  pub sum-absent : (k : ℕ) → modeOf d k ≡ 0 → offsetOf d (suc k) ≡ offsetOf d k
+  unfolding offsetOf
+  sum-absent k m = rw (size-none k m) (add-zero (offsetOf d k))
+
+  or-false : (b : Bool) → (b || false) ≡ b
+  or-false true = refl
+  or-false false = refl
+
+  pub any-absent : (k : ℕ) → modeOf d k ≡ 0 → anyUnknown d (suc k) ≡ anyUnknown d k
+  unfolding anyUnknown
+  any-absent k m = rw (unknown-absent d k m) (or-false (anyUnknown d k))
+
   -- ---- the nine matrices
   matrix-absent : d .vcd0 % 2 ^ 9 ≡ 0 → (k : ℕ) → k < 9 → modeOf d k ≡ 0
   unfolding modeOf bitsAt modes
@@ -37,7 +57,7 @@ module _ (d : Descriptor) where
   before a (suc n) h =
       let i = before a n (omega arith) in
       let m = a n h in
-      (rw (i .0, size-matrix d n h, m), rw (i .1, unknown-absent d n m))
+      (sum-absent n m ∙ i .0, any-absent n m ∙ i .1)
 
   pub none-before : d .vcd0 % 2 ^ 9 ≡ 0 → NoneBefore d 9
   none-before e =
@@ -64,17 +84,12 @@ module _ (d : Descriptor) where
 
   from : ((k : ℕ) → 13 ≤ k → k < 21 → modeOf d k ≡ 0) → (n : ℕ) → n ≤ 8
       → (offsetOf d (n + 13) ≡ offsetOf d 13) × (anyUnknown d (n + 13) ≡ anyUnknown d 13)
-  unfolding offsetOf anyUnknown
   from a zero h = (refl, refl)
   from a (suc n) h =
       let i = from a n (omega arith) in
       let m = a (n + 13) (omega arith) (omega arith) in
       let e : suc n + 13 ≡ suc (n + 13) = omega arith in
-      (rw (e, i .0, size-absent d (n + 13) (omega arith) m) (omega arith), rw (e, i .1, unknown-absent d (n + 13) m) (or-false _))
-    where
-      or-false : (b : Bool) → (b || false) ≡ b
-      or-false true = refl
-      or-false false = refl
+      (rw e (sum-absent (n + 13) m ∙ i .0), rw e (any-absent (n + 13) m ∙ i .1))
 
   pub none-from : d .vcd1 % 2 ^ 16 ≡ 0 → NoneFrom d 13
   none-from e =

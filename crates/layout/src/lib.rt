@@ -249,6 +249,10 @@ fn tally(d: Descriptor) -> Sums
     let mut found = false;
     let mut k = first_present(d);
     while k < end {
+        if mode(d, k) == 0 {
+            k += 1;
+            continue;
+        }
         total += size(d, k);
         found = found | unknown(d, k);
         k += 1;

@@ -9,5 +9,6 @@ pub mod Stepping
 pub mod Course
 pub mod Ahead
 pub mod Wholes
+pub mod Follow
 pub mod Runs
 pub mod Meanings

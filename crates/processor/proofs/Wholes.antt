@@ -12,7 +12,7 @@ use Rattle.command.specs.declared.Draw.{Draw}
 use Rattle.command.specs.declared.Draw.the-variants.{Closed, Open}
 use Rattle.command.specs.Command.{unit, vertex}
 use Rattle.command.specs.Look.{vertexBytes}
-use Rattle.command.proofs.OpenDraw.{bytes-most, looks-vertex}
+use Rattle.command.proofs.Decided.{bytes-most, looks-vertex}
 use Rattle.effect.specs.Effect as E
 use Rattle.fifo.specs.declared.Fifo.{Fifo}
 use Rattle.fifo.specs.declared.Cursor.{Cursor}

@@ -3,4 +3,5 @@ pub mod Gate
 pub mod Step
 pub mod Cursor
 pub mod Vertices
+pub mod Loads
 pub mod Run

@@ -1,4 +1,5 @@
 // The processor: the registers that ports share, one unit of the stream, or a run of units (document 01's "bench").
+mod loads;
 mod running;
 mod taking;
 mod tests;

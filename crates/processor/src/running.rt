@@ -1,6 +1,7 @@
 // A run of units: steps until the limit, waiting or a refusal.
 use crate::StepAnswer;
 use crate::Stop;
+use crate::loads;
 use crate::taking;
 use crate::vertices;
 use command::Draw;
@@ -42,7 +43,7 @@ fn stop_for(answer: StepAnswer) -> Stop
 }
 
 // Takes units off the queue of a state that has passed 1 to 5: "A run stops at its limit, at waiting or at a refusal, the limit tested first".
-// After each unit the whole vertices of a draw that it leaves open are taken in one move.
+// After each unit the whole vertices of a draw that it leaves open are taken in one move, and BP loads that follow in one call.
 pub(crate) fn take_units(
     fifo: Fifo,
     ring: &[u8],
@@ -74,9 +75,12 @@ pub(crate) fn take_units(
         let next = moved.cursor;
         let open = moved.draw;
         let batch = vertices::take_vertices(next, ring, cp, open, buffer, limit - units);
-        cursor = batch.cursor;
         draw = batch.draw;
         units += batch.units;
+        let after = batch.cursor;
+        let loads = loads::take_loads(after, ring, bp, draw, limit - units);
+        cursor = loads.cursor;
+        units += loads.units;
     }
     Course {
         fifo: fifo::close(fifo, cursor),

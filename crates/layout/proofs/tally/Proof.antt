@@ -3,11 +3,14 @@
 use mathlib.Core.Path.{_≡_, sym, ap, _∙_}
 use mathlib.Core.Bool.{Bool}
 use Prim.Native.Nat.{ℕ, _-_, _≤_}
+use native.Mathlib.Numerals.{add-one}
 use native.Mathlib.Omega.{arith}
 use borrow.Author.Needs.{needs}
 use Rattle.layout.specs.declared.Descriptor.{Descriptor}
+use Rattle.layout.specs.Fields.{modeOf}
 use Rattle.layout.specs.Sizes.{offsetOf, anyUnknown, NoneFrom}
 use Rattle.layout.proofs.Tests.{sum-next, any-next}
+use Rattle.layout.proofs.Present.{sum-absent, any-absent}
 use Rattle.layout.proofs.Bounds.{size-small, offset-le}
 use Rattle.layout.proofs.tally.Statement.{statement}
 use Rattle.layout.proofs.tally.Tie as tie
@@ -37,18 +40,8 @@ loop-holds c =
     let p = c .before .past-present .ensures in
     record { ends = p; below = omega (arith, f .most, p .least); sum = sym (f .sum-is); any = sym (f .unknown-is) }
 
-size-requires : tie.Need-size-requires Inv-loop μ-loop
-size-requires c κs = search needs
-
-add-total : tie.Need-add-total Inv-loop μ-loop
-add-total c =
-    let lp = c .before .before .loop in
-    let d = c .before .before .before .before .before .args .d in
-    let most = lp .inv .ends .most in
-    omega (arith, lp .inv .sum, offset-le d (lp .k) (omega (arith, most)), c .size .ensures, size-small d (lp .k))
-
-unknown-requires : tie.Need-unknown-requires Inv-loop μ-loop
-unknown-requires c κs = search needs
+mode-requires : tie.Need-mode-requires Inv-loop μ-loop
+mode-requires c κs = search needs
 
 add-k : tie.Need-add-k Inv-loop μ-loop
 add-k c = search needs
@@ -60,6 +53,37 @@ loop-again : tie.Need-loop-again Inv-loop μ-loop
 loop-again c =
     let lp = c .before .before .before .loop in
     let d = c .before .before .before .before .before .before .args .d in
+    let m : modeOf d (lp .k) ≡ 0 = sym (c .before .mode .ensures) ∙ c .if1 .taken in
+    record {
+      ends = lp .inv .ends;
+      below = omega arith;
+      sum = rw add-one (lp .inv .sum ∙ sym (sum-absent d (lp .k) m));
+      any = rw add-one (lp .inv .any ∙ sym (any-absent d (lp .k) m));
+    }
+
+size-requires : tie.Need-size-requires Inv-loop μ-loop
+size-requires c κs = search needs
+
+add-total : tie.Need-add-total Inv-loop μ-loop
+add-total c =
+    let lp = c .before .before .before .before .loop in
+    let d = c .before .before .before .before .before .before .before .args .d in
+    let most = lp .inv .ends .most in
+    omega (arith, lp .inv .sum, offset-le d (lp .k) (omega (arith, most)), c .size .ensures, size-small d (lp .k))
+
+unknown-requires : tie.Need-unknown-requires Inv-loop μ-loop
+unknown-requires c κs = search needs
+
+add-k-2 : tie.Need-add-k-2 Inv-loop μ-loop
+add-k-2 c = search needs
+
+loop-less-2 : tie.Need-loop-less-2 Inv-loop μ-loop
+loop-less-2 c = search needs
+
+loop-again-2 : tie.Need-loop-again-2 Inv-loop μ-loop
+loop-again-2 c =
+    let lp = c .before .before .before .before .before .loop in
+    let d = c .before .before .before .before .before .before .before .before .args .d in
     record {
       ends = lp .inv .ends;
       below = omega arith;
@@ -87,10 +111,14 @@ tally-spec =
     past-present-requires
     first-present-requires
     loop-holds
-    size-requires
-    add-total
-    unknown-requires
+    mode-requires
     add-k
     loop-less
     loop-again
+    size-requires
+    add-total
+    unknown-requires
+    add-k-2
+    loop-less-2
+    loop-again-2
     returns)

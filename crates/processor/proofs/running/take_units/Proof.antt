@@ -9,6 +9,7 @@ use borrow.Author.Needs.{needs}
 use lib.ListN.{length}
 use Rattle.processor.proofs.Course.{Course, hereOf, course-begins, course-goes, course-stops, course-ends}
 use Rattle.processor.proofs.Wholes.{takes-most, course-vertices}
+use Rattle.processor.proofs.Follow.{course-loads}
 use Rattle.processor.proofs.Bridge.{takes-opened}
 use Rattle.processor.proofs.StepAnswer as Answers
 use Rattle.processor.specs.Run.{entryOf}
@@ -52,6 +53,19 @@ take-of v = v .before .before .before .before .before .before .before .before .b
 -- the vertices were no more than the limit allows
 few : (v : tie.After-take-vertices Inv-loop μ-loop) → v .take-vertices .result .units ≤ start-of (loop-of (take-of v)) .args .limit - (loop-of (take-of v) .loop .units + 1)
 few v = takes-most (take-of v .take .result .draw) (v .take-vertices .ensures)
+
+-- the vertices of a turn whose loads were taken
+abbrev vertices-of : tie.After-take-loads Inv-loop μ-loop → tie.After-take-vertices Inv-loop μ-loop
+vertices-of w = w .before .before .before .before .before .before
+
+-- the units of a turn stay within the limit
+room : (v : tie.After-take-vertices Inv-loop μ-loop)
+    → loop-of (take-of v) .loop .units + 1 + v .take-vertices .result .units ≤ start-of (loop-of (take-of v)) .args .limit
+room v = omega (arith, few v, take-of v .before .before .before .before .before .loop-test .taken)
+
+all-room : (w : tie.After-take-loads Inv-loop μ-loop) → let v = vertices-of w in
+    loop-of (take-of v) .loop .units + 1 + v .take-vertices .result .units + w .take-loads .result .units ≤ start-of (loop-of (take-of v)) .args .limit
+all-room w = omega (arith, room (vertices-of w), w .take-loads .ensures .within)
 
 octets : (l : tie.At-loop Inv-loop μ-loop) → Octets (start-of l .args .ring .now)
 octets l k = l .before .before .before .before .shared-slice-known .given k .fits
@@ -104,26 +118,43 @@ take-vertices-requires c κs = search needs
 
 add-units-2 : tie.Need-add-units-2 Inv-loop μ-loop
 add-units-2 c =
-    let v = c .before .before .before .before in
-    let t = take-of v in
-    omega (arith, few v, start-of (loop-of t) .fits .limit, t .before .before .before .before .before .loop-test .taken)
+    let v = c .before .before .before in
+    omega (arith, room v, start-of (loop-of (take-of v)) .fits .limit)
+
+sub-take-loads : tie.Need-sub-take-loads Inv-loop μ-loop
+sub-take-loads c = room (c .before .before .before .before .before)
+
+take-loads-requires : tie.Need-take-loads-requires Inv-loop μ-loop
+take-loads-requires c κs = search needs
+
+add-units-3 : tie.Need-add-units-3 Inv-loop μ-loop
+add-units-3 c =
+    let w = c .before .before in
+    omega (arith, all-room w, start-of (loop-of (take-of (vertices-of w))) .fits .limit)
 
 loop-less : tie.Need-loop-less Inv-loop μ-loop
-loop-less c = omega (arith, few (c .before .before .before .before))
+loop-less c = omega (arith, all-room (c .before .before))
 
 loop-again : tie.Need-loop-again Inv-loop μ-loop
 loop-again c = (
-  search (needs, loop-of (take-of (c .before .before .before .before)) .loop .inv .0),
+  search (
+    needs,
+    loop-of (take-of (vertices-of (c .before .before))) .loop .inv .0,
+    vertices-of (c .before .before) .before .before .before .before .before .before .before .before .before .xf,
+  ),
   (
-    search (needs, loop-of (take-of (c .before .before .before .before)) .loop .inv .1 .0),
-    let v = c .before .before .before .before in
+    search (needs, loop-of (take-of (vertices-of (c .before .before))) .loop .inv .1 .0),
+    let w = c .before .before in
+        let v = vertices-of w in
         let t = take-of v in
         let l = loop-of t in
         let at = l .loop .inv .1 .1 in
-        course-vertices _ (octets l) (t .take .result .draw) (v .take-vertices .result .units)
+        course-loads _ (octets l) (w .take-loads .result .units)
+        (course-vertices _ (octets l) (t .take .result .draw) (v .take-vertices .result .units)
         (course-goes _ (octets l) at (t .before .before .before .before .before .loop-test .taken)
         (takes-opened _ (here-of l) (at .passes .ready) (at .cursor-is) (t .take .ensures)) _ _ _ (ap meaning (v .before .before .before .before .enum-told .given .1)))
-        (v .take-vertices .ensures),
+        (v .take-vertices .ensures))
+        (w .take-loads .ensures) (omega (arith, room v)),
   ),
 )
 
@@ -161,6 +192,9 @@ take-units-spec =
     sub-take-vertices
     take-vertices-requires
     add-units-2
+    sub-take-loads
+    take-loads-requires
+    add-units-3
     loop-less
     loop-again
     close-requires-2

@@ -1,18 +1,20 @@
--- In an open draw a whole vertex is the next unit.
+-- What is found where all its bytes are there: a vertex of an open draw, a BP load.
 use mathlib.Core.Path.{_≡_, refl}
 use mathlib.Core.Bool.{Bool, true, false, cond}
 use mathlib.Core.List.{List}
 use Prim.Native.Nat.{ℕ, _≤_}
 use native.Mathlib.Omega.{arith}
 use lib.Dec.{eqb}
-use borrow.Author.Tests.{eqb-true, le-ltb}
+use lib.ListN.{getD}
+use borrow.Author.Tests.{eqb-true, ne-eqb, le-ltb}
+use Rattle.octets.specs.BigEndian.{bigEndian}
 use Rattle.layout.specs.declared.Descriptor.{Descriptor}
 use Rattle.layout.specs.Sizes.{offsetOf}
 use Rattle.layout.specs.Answers.{refusalOf, lengthOf}
 use Rattle.layout.proofs.Bounds.{length-le}
-use Rattle.command.specs.declared.Draw.the-variants.{Open}
-use Rattle.command.specs.Command.{unit, vertex}
-use Rattle.command.specs.Look.{descriptorOf, vertexBytes, lookOf, lookVertex, whole}
+use Rattle.command.specs.declared.Draw.the-variants.{Closed, Open}
+use Rattle.command.specs.Command.{unit, vertex, loadBp}
+use Rattle.command.specs.Look.{descriptorOf, vertexBytes, lookOf, byOpcode, lookBp, lookVertex, whole}
 
 -- a length is that of an accepted layout
 accepted : (d : Descriptor) → 1 ≤ lengthOf d → refusalOf d ≡ 0
@@ -30,3 +32,8 @@ pub looks-vertex : (b : List ℕ) (n : ℕ) (cp : List ℕ) (p f left : ℕ) →
     → lookOf b n cp (Open p f left) ≡ unit vertex 0 (vertexBytes cp f)
 unfolding lookOf lookVertex whole
 looks-vertex b n cp p f left h l = rw (accepted (descriptorOf cp f) h, le-ltb n (vertexBytes cp f) l)
+
+pub looks-bp : (b : List ℕ) (n : ℕ) (cp : List ℕ) → getD b 0 0 ≡ 0x61 → 5 ≤ n
+    → lookOf b n cp Closed ≡ unit (loadBp (getD b 1 0) (bigEndian b 2 3)) 0 5
+unfolding lookOf byOpcode lookBp whole
+looks-bp b n cp e h = rw (ne-eqb n 0 (λ z. omega arith), e, le-ltb n 5 h)
