@@ -2,7 +2,7 @@
 use mathlib.Core.Path.{_≡_, refl}
 use mathlib.Core.Bool.{Bool, true, false, cond}
 use mathlib.Core.List.{List}
-use Prim.Native.Nat.{ℕ, _≤_}
+use Prim.Native.Nat.{ℕ, _+_, _*_, _≤_}
 use native.Mathlib.Omega.{arith}
 use lib.Dec.{eqb}
 use lib.ListN.{getD}
@@ -13,8 +13,8 @@ use Rattle.layout.specs.Sizes.{offsetOf}
 use Rattle.layout.specs.Answers.{refusalOf, lengthOf}
 use Rattle.layout.proofs.Bounds.{length-le}
 use Rattle.command.specs.declared.Draw.the-variants.{Closed, Open}
-use Rattle.command.specs.Command.{unit, vertex, loadBp}
-use Rattle.command.specs.Look.{descriptorOf, vertexBytes, lookOf, byOpcode, lookBp, lookVertex, whole}
+use Rattle.command.specs.Command.{unit, vertex, loadBp, loadXf}
+use Rattle.command.specs.Look.{descriptorOf, vertexBytes, lookOf, byOpcode, lookBp, xfCount, xfWords, xfAddress, lookXf, lookVertex, whole}
 
 -- a length is that of an accepted layout
 accepted : (d : Descriptor) → 1 ≤ lengthOf d → refusalOf d ≡ 0
@@ -37,3 +37,10 @@ pub looks-bp : (b : List ℕ) (n : ℕ) (cp : List ℕ) → getD b 0 0 ≡ 0x61 
     → lookOf b n cp Closed ≡ unit (loadBp (getD b 1 0) (bigEndian b 2 3)) 0 5
 unfolding lookOf byOpcode lookBp whole
 looks-bp b n cp e h = rw (ne-eqb n 0 (λ z. omega arith), e, le-ltb n 5 h)
+
+pub looks-xf : (b : List ℕ) (n : ℕ) (cp : List ℕ) → getD b 0 0 ≡ 0x10 → xfAddress b + xfWords b ≤ xfCount → 5 + 4 * xfWords b ≤ n
+    → lookOf b n cp Closed ≡ unit (loadXf (xfWords b) (xfAddress b)) 0 (5 + 4 * xfWords b)
+unfolding lookOf byOpcode lookXf whole
+looks-xf b n cp e l h =
+    let five : 5 ≤ n = omega arith in
+    rw (ne-eqb n 0 (λ z. omega arith), e, le-ltb n 5 five, le-ltb xfCount (xfAddress b + xfWords b) l, le-ltb n (5 + 4 * xfWords b) h)

@@ -43,7 +43,7 @@ fn stop_for(answer: StepAnswer) -> Stop
 }
 
 // Takes units off the queue of a state that has passed 1 to 5: "A run stops at its limit, at waiting or at a refusal, the limit tested first".
-// After each unit the whole vertices of a draw that it leaves open are taken in one move, and BP loads that follow in one call.
+// After each unit the whole vertices of a draw that it leaves open are taken in one move, and the loads that follow in one call.
 pub(crate) fn take_units(
     fifo: Fifo,
     ring: &[u8],
@@ -78,7 +78,7 @@ pub(crate) fn take_units(
         draw = batch.draw;
         units += batch.units;
         let after = batch.cursor;
-        let loads = loads::take_loads(after, ring, bp, draw, limit - units);
+        let loads = loads::take_loads(after, ring, bp, xf, draw, limit - units);
         cursor = loads.cursor;
         units += loads.units;
     }

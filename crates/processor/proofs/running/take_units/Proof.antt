@@ -56,7 +56,7 @@ few v = takes-most (take-of v .take .result .draw) (v .take-vertices .ensures)
 
 -- the vertices of a turn whose loads were taken
 abbrev vertices-of : tie.After-take-loads Inv-loop μ-loop → tie.After-take-vertices Inv-loop μ-loop
-vertices-of w = w .before .before .before .before .before .before
+vertices-of w = w .before .before .before .before .before .before .before
 
 -- the units of a turn stay within the limit
 room : (v : tie.After-take-vertices Inv-loop μ-loop)
@@ -122,29 +122,35 @@ add-units-2 c =
     omega (arith, room v, start-of (loop-of (take-of v)) .fits .limit)
 
 sub-take-loads : tie.Need-sub-take-loads Inv-loop μ-loop
-sub-take-loads c = room (c .before .before .before .before .before)
+sub-take-loads c = room (c .before .before .before .before .before .before)
 
 take-loads-requires : tie.Need-take-loads-requires Inv-loop μ-loop
 take-loads-requires c κs = search needs
 
 add-units-3 : tie.Need-add-units-3 Inv-loop μ-loop
 add-units-3 c =
-    let w = c .before .before in
+    let w = c .before .before .before .before in
     omega (arith, all-room w, start-of (loop-of (take-of (vertices-of w))) .fits .limit)
 
 loop-less : tie.Need-loop-less Inv-loop μ-loop
-loop-less c = omega (arith, all-room (c .before .before))
+loop-less c = omega (arith, all-room (c .before .before .before .before))
 
 loop-again : tie.Need-loop-again Inv-loop μ-loop
 loop-again c = (
   search (
     needs,
-    loop-of (take-of (vertices-of (c .before .before))) .loop .inv .0,
-    vertices-of (c .before .before) .before .before .before .before .before .before .before .before .before .xf,
+    loop-of (take-of (vertices-of (c .before .before .before .before))) .loop .inv .0,
+    vertices-of (c .before .before .before .before) .before .before .before .before .before .before .before .before .before .xf,
+    c .before .before .before .xf2,
   ),
   (
-    search (needs, loop-of (take-of (vertices-of (c .before .before))) .loop .inv .1 .0),
-    let w = c .before .before in
+    search (
+      needs,
+      loop-of (take-of (vertices-of (c .before .before .before .before))) .loop .inv .1 .0,
+      vertices-of (c .before .before .before .before) .before .before .before .before .before .before .before .buffer,
+      c .before .before .before .before .before .before .before .before .before .before .buffer2,
+    ),
+    let w = c .before .before .before .before in
         let v = vertices-of w in
         let t = take-of v in
         let l = loop-of t in
