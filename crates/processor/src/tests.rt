@@ -4,9 +4,11 @@ use command::Draw;
 use fifo::Fifo;
 use refusal::Reason;
 ghost use mathlib.Core.Path.{_≡_};
+ghost use mathlib.Core.Bool.{cond};
 ghost use Prim.Native.Nat.{_+_, _≤_};
 ghost use lib.ListN.{length, take, drop};
 ghost use mathlib.Core.List.{[], _∷_};
+ghost use Rattle.refusal.specs.Number.{number};
 ghost use Rattle.processor.specs.Gate.{allBelow, cpFits, drawFits, registersFit, stateFits, gateBy, meaningOfGate};
 
 // Whether n values from a place on are below a limit.
@@ -58,6 +60,19 @@ fn state_fits(fifo: Fifo, cp: &[u32; 60], bp: &[u32; 256], draw: Draw, ring: usi
     fifo::ready(fifo, ring) & ((fifo.control < 64) & registers_fit(cp, bp, draw))
 }
 
+// The first of two refusals that applies.
+fn first_of(a: bool, first: Reason, b: bool, second: Reason) -> Gate
+    ensures { λ r. ⌜ meaningOfGate r ≡ cond a (number first) (cond b (number second) 0) ∷ [] ⌝ }
+{
+    if a {
+        return Gate::Refused(first);
+    }
+    if b {
+        return Gate::Refused(second);
+    }
+    Gate::Passed
+}
+
 // The first of 1 to 5 that applies, for a ring, XF words and a vertex buffer of such lengths.
 pub fn pass(
     fifo: Fifo,
@@ -80,11 +95,7 @@ pub fn pass(
         return Gate::Refused(Reason::VertexBufferShort);
     }
     let control = fifo.control;
-    if control % 2 == 0 {
-        return Gate::Refused(Reason::ReadDisabled);
-    }
-    if control / 16 % 2 != 0 {
-        return Gate::Refused(Reason::LinkedMode);
-    }
-    Gate::Passed
+    let disabled = control % 2 == 0;
+    let linked = control / 16 % 2 != 0;
+    first_of(disabled, Reason::ReadDisabled, linked, Reason::LinkedMode)
 }

@@ -1,11 +1,18 @@
 -- `processor::tests::pass` meets its contract: the tests are the definition's, in its order.
 use borrow.Author.Needs.{needs}
-use mathlib.Core.Path.{_≡_, sym, _∙_}
-use mathlib.Core.Bool.{true}
+use mathlib.Core.Path.{_≡_, refl, sym, ap, _∙_}
+use mathlib.Core.Bool.{Bool, true, false, not, cond}
+use mathlib.Core.List.{[], _∷_}
+use Prim.Native.Nat.{ℕ}
 use borrow.Author.Tests.{not-true, not-false, eq-eqb, ne-eqb, le-leb, lt-leb}
-use Rattle.processor.specs.Gate.{gateBy, stateFits}
+use lib.Dec.{eqb}
+use Rattle.processor.specs.Gate.{gateBy, stateFits, readBit, linkBit}
 use Rattle.processor.proofs.tests.pass.Statement.{statement}
 use Rattle.processor.proofs.tests.pass.Tie as tie
+
+cond-not : (b : Bool) (x y : ℕ) → cond (not b) x y ≡ cond b y x
+cond-not true x y = refl
+cond-not false x y = refl
 
 -- past the test of 1
 fit : (h : tie.Else1) → stateFits (h .before .before .args .fifo) (h .before .before .args .cp .now) (h .before .before .args .bp .now) (h .before .before .args .draw) (h .before .before .args .ring) ≡ true
@@ -26,25 +33,19 @@ returns-3 : tie.Need-returns-3
 unfolding gateBy
 returns-3 c = rw (fit (c .before .before), eq-eqb _ _ (c .before .if2 .left), lt-leb _ _ (c .if3 .taken))
 
+first-of-requires : tie.Need-first-of-requires
+first-of-requires c κs = search needs
+
 returns-4 : tie.Need-returns-4
 unfolding gateBy
 returns-4 c =
-    let b = c .before .before in
-    rw (fit (b .before), eq-eqb _ _ (b .if2 .left), le-leb _ _ (c .before .if3 .left), eq-eqb _ _ (c .if4 .taken))
-
-returns-5 : tie.Need-returns-5
-unfolding gateBy
-returns-5 c =
-    let b = c .before .before .before in
-    rw (fit (b .before), eq-eqb _ _ (b .if2 .left), le-leb _ _ (c .before .before .if3 .left), ne-eqb _ _ (c .before .if4 .left), ne-eqb _ _ (c .if5 .taken))
-
-returns-6 : tie.Need-returns-6
-unfolding gateBy
-returns-6 c =
-    let b = c .before .before .before in
-    rw (fit (b .before), eq-eqb _ _ (b .if2 .left), le-leb _ _ (c .before .before .if3 .left), ne-eqb _ _ (c .before .if4 .left), eq-eqb _ _ (c .if5 .left))
+    let h = c .before in
+    let b = h .before in
+    let control = b .before .before .before .args .fifo .control in
+    rw (fit (b .before), eq-eqb _ _ (b .if2 .left), le-leb _ _ (h .if3 .left))
+    (c .first-of .ensures ∙ ap (λ (n : ℕ). cond (eqb (readBit control) 0) 4 n ∷ []) (cond-not (eqb (linkBit control) 0) 5 0))
 
 pub pass-spec : {M : Type 1} → statement M
 pass-spec =
     tie.close
-    (tie.spec state-fits-requires returns returns-2 returns-3 returns-4 returns-5 returns-6)
+    (tie.spec state-fits-requires returns returns-2 returns-3 first-of-requires returns-4)
