@@ -3,10 +3,9 @@ pub mod places;
 mod units;
 
 use refusal::Reason;
-pub use units::vertex_bytes;
 ghost use mathlib.Core.Path.{_≡_};
 ghost use Rattle.command.specs.Command.{meaning};
-ghost use Rattle.command.specs.Look.{lookOf};
+ghost use Rattle.command.specs.Look.{lookOf, vertexBytes};
 
 pub enum Command {
     NoOperation,
@@ -86,6 +85,14 @@ fn look_command(b: [u8; 9], count: u32, cp: &[u32; 60]) -> Next
         0x80..=0xBF => units::look_head(op, b, count, cp),
         _ => Next::Refused(Reason::UnknownOpcode),
     }
+}
+
+// The bytes of a vertex of a format, 0 where its layout is refused.
+pub fn vertex_bytes(cp: &[u32; 60], format: u8) -> u32
+    ensures { λ r. ⌜ r ≡ vertexBytes (now (cp .entry)) format ⌝ }
+{
+    let measured = layout::measure(units::descriptor(cp, format));
+    measured.length
 }
 
 // What the stream goes on with: its first nine bytes, zeros past the last, and how many there are in all.

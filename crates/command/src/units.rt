@@ -10,7 +10,7 @@ ghost use mathlib.Core.Path.{_≡_};
 ghost use Prim.Native.Nat.{_+_, _<_, _≤_};
 ghost use Rattle.command.specs.Command.{numbersOf, meaning};
 ghost use Rattle.command.specs.Look.{whole, lookCp, lookXf, lookIndexed, lookCall};
-ghost use Rattle.command.specs.Look.{lookBp, lookHead, lookVertex, memoryOf, descriptorOf, vertexBytes};
+ghost use Rattle.command.specs.Look.{lookBp, lookHead, lookVertex, memoryOf, descriptorOf};
 
 // A unit of so many bytes: it waits for those that it lacks.
 pub fn unit(count: u32, length: u32, command: Command, memory: u32) -> Next
@@ -135,14 +135,6 @@ pub fn look_head(op: u8, b: [u8; 9], count: u32, cp: &[u32; 60]) -> Next
             unit(count, 3, command, 0)
         }
     }
-}
-
-// The bytes of a vertex of a format, 0 where its layout is refused.
-pub fn vertex_bytes(cp: &[u32; 60], format: u8) -> u32
-    ensures { λ r. ⌜ r ≡ vertexBytes (now (cp .entry)) format ⌝ }
-{
-    let measured = layout::measure(descriptor(cp, format));
-    measured.length
 }
 
 // A vertex of an open draw.

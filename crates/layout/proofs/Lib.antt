@@ -3,3 +3,4 @@ pub mod Bounds
 pub mod Meanings
 pub mod Ignored
 pub mod Present
+pub mod Tables

@@ -1,16 +1,16 @@
 // The layout of a vertex: the bytes and the place of each of its 21 attributes, as document 01's "Vertex layout" and source document 004's
 // tables of the VCD and the VAT give them.
+mod measuring;
 mod places;
 
+pub use measuring::measure;
 use refusal::Reason;
 ghost use mathlib.Core.Path.{_≡_};
-ghost use mathlib.Core.Bool.{cond};
-ghost use Rattle.refusal.specs.Number.{number};
 ghost use Prim.Native.Nat.{ℕ, _<_, _≤_};
 ghost use lib.ListN.{getD};
 ghost use Rattle.layout.specs.Fields.{words, bitsAt, modeOf, countOf, formatOf, fractionBits, fractionOf, indicesOf, fieldOf};
-ghost use Rattle.layout.specs.Sizes.{isColour, colourWidth, componentsOf, directOf, sizeOf, unknownAt, NoneBefore, NoneFrom};
-ghost use Rattle.layout.specs.Answers.{Laid, Filled, Emptied, Measured, MeasuredAs, Tallied};
+ghost use Rattle.layout.specs.Sizes.{isColour, colourWidth, componentsOf, directOf, sizeOf, unknownAt};
+ghost use Rattle.layout.specs.Answers.{Laid, Filled, Emptied};
 
 // What names a vertex's attributes and their formats: the two words of the VCD, and the three of the VAT in use.
 pub struct Descriptor {
@@ -47,12 +47,6 @@ pub struct Layout {
 pub struct Extent {
     pub answer: LayoutAnswer,
     pub length: u32,
-}
-
-// The bytes of all attributes, and whether one is present in a format that is none.
-struct Sums {
-    total: u32,
-    unknown: bool,
 }
 
 // The word of a number, 0 where there is none.
@@ -224,80 +218,6 @@ fn unknown(d: Descriptor, k: usize) -> bool
     }
     let f = format(d, k);
     if is_colour(k) { 6 <= f } else { 5 <= f }
-}
-
-// The first attribute to look at: no matrix is present where the nine bits are clear.
-fn first_present(d: Descriptor) -> usize
-    ensures { λ r. ⌜ NoneBefore d r ⌝ }
-{
-    if d.vcd0 % 512 == 0 { 9 } else { 0 }
-}
-
-// The attribute past the last to look at: no texture is present where the sixteen bits are clear.
-fn past_present(d: Descriptor) -> usize
-    ensures { λ r. ⌜ NoneFrom d r ⌝ }
-{
-    if d.vcd1 % 0x10000 == 0 { 13 } else { 21 }
-}
-
-// The bytes of all attributes, and whether one is present in a format that is none.
-fn tally(d: Descriptor) -> Sums
-    ensures { λ r. ⌜ Tallied d r ⌝ }
-{
-    let end = past_present(d);
-    let mut total: u32 = 0;
-    let mut found = false;
-    let mut k = first_present(d);
-    while k < end {
-        if mode(d, k) == 0 {
-            k += 1;
-            continue;
-        }
-        total += size(d, k);
-        found = found | unknown(d, k);
-        k += 1;
-    }
-    Sums {
-        total,
-        unknown: found,
-    }
-}
-
-// The length, unless the one refusal applies, or else the other.
-fn length_unless(absent: bool, first: Reason, unknown: bool, second: Reason, length: u32) -> Extent
-    ensures { λ r. ⌜ MeasuredAs (cond absent (number first) (cond unknown (number second) 0)) (cond absent 0 (cond unknown 0 length)) r ⌝ }
-{
-    if absent {
-        return Extent {
-            answer: LayoutAnswer::Refused(first),
-            length: 0,
-        };
-    }
-    if unknown {
-        return Extent {
-            answer: LayoutAnswer::Refused(second),
-            length: 0,
-        };
-    }
-    Extent {
-        answer: LayoutAnswer::Accepted,
-        length,
-    }
-}
-
-// The length of a vertex, or the reason why it has none: 9, then 10.
-pub fn measure(d: Descriptor) -> Extent
-    ensures { λ r. ⌜ Measured d r ⌝ }
-{
-    let tally = tally(d);
-    let absent = mode(d, 9) == 0;
-    length_unless(
-        absent,
-        Reason::PositionAbsent,
-        tally.unknown,
-        Reason::UnknownFormat,
-        tally.total,
-    )
 }
 
 // The layout of a descriptor that is not refused.

@@ -3,78 +3,6 @@
 ghost use mathlib.Core.Path.{_≡_};
 ghost use Rattle.layout.specs.Fields.{placeIn, modes, counts, formats, shifts};
 
-const MODES: [u8; 21] = [
-    0,
-    1,
-    2,
-    3,
-    4,
-    5,
-    6,
-    7,
-    8,
-    9,
-    11,
-    13,
-    15,
-    32,
-    34,
-    36,
-    38,
-    40,
-    42,
-    44,
-    46,
-];
-
-const COUNTS: [u8; 21] = [
-    160,
-    160,
-    160,
-    160,
-    160,
-    160,
-    160,
-    160,
-    160,
-    64,
-    73,
-    77,
-    81,
-    85,
-    96,
-    105,
-    114,
-    123,
-    133,
-    142,
-    151,
-];
-
-const FORMATS: [u8; 21] = [
-    160,
-    160,
-    160,
-    160,
-    160,
-    160,
-    160,
-    160,
-    160,
-    65,
-    74,
-    78,
-    82,
-    86,
-    97,
-    106,
-    115,
-    124,
-    134,
-    143,
-    152,
-];
-
 const SHIFTS: [u8; 21] = [
     160,
     160,
@@ -110,21 +38,51 @@ fn entry(places: [u8; 21], k: usize) -> u32
 pub fn mode_place(k: usize) -> u32
     ensures { λ r. ⌜ r ≡ placeIn modes k ⌝ }
 {
-    entry(MODES, k)
+    if k < 9 {
+        return k as u32;
+    }
+    if k < 13 {
+        return 2 * k as u32 - 9;
+    }
+    if k < 21 {
+        return 2 * k as u32 + 6;
+    }
+    160
 }
 
 // Its count bit.
 pub fn count_place(k: usize) -> u32
     ensures { λ r. ⌜ r ≡ placeIn counts k ⌝ }
 {
-    entry(COUNTS, k)
+    if k < 9 {
+        return 160;
+    }
+    if k < 10 {
+        return 64;
+    }
+    if k < 14 {
+        return 4 * k as u32 + 33;
+    }
+    if k < 18 {
+        return 9 * k as u32 - 30;
+    }
+    if k < 21 {
+        return 9 * k as u32 - 29;
+    }
+    160
 }
 
-// Its format, of three bits.
+// Its format, of three bits, beside its count bit.
 pub fn format_place(k: usize) -> u32
     ensures { λ r. ⌜ r ≡ placeIn formats k ⌝ }
 {
-    entry(FORMATS, k)
+    if k < 9 {
+        return 160;
+    }
+    if k < 21 {
+        return count_place(k) + 1;
+    }
+    160
 }
 
 // Its shift, of five bits.

@@ -1,7 +1,7 @@
 -- Where the sixteen bits of the textures are clear no attribute past the colours is present.
 use Rattle.layout.proofs.Present.{none-from, none-from-last}
-use Rattle.layout.proofs.past_present.Statement.{statement}
-use Rattle.layout.proofs.past_present.Tie as tie
+use Rattle.layout.proofs.measuring.past_present.Statement.{statement}
+use Rattle.layout.proofs.measuring.past_present.Tie as tie
 
 returns : tie.Need-returns
 returns c = none-from (c .before .before .args .d) (c .if1 .taken)

@@ -12,8 +12,8 @@ use Rattle.layout.specs.Sizes.{offsetOf, anyUnknown, NoneFrom}
 use Rattle.layout.proofs.Tests.{sum-next, any-next}
 use Rattle.layout.proofs.Present.{sum-absent, any-absent}
 use Rattle.layout.proofs.Bounds.{size-small, offset-le}
-use Rattle.layout.proofs.tally.Statement.{statement}
-use Rattle.layout.proofs.tally.Tie as tie
+use Rattle.layout.proofs.measuring.tally.Statement.{statement}
+use Rattle.layout.proofs.measuring.tally.Tie as tie
 
 -- what holds before attribute k
 record Turn (d : Descriptor) (end total : ℕ) (found : Bool) (k : ℕ) : Type 0 where

@@ -1,7 +1,7 @@
 -- Where the nine bits of the matrices are clear no attribute before the position is present.
 use Rattle.layout.proofs.Present.{none-before, none-before-first}
-use Rattle.layout.proofs.first_present.Statement.{statement}
-use Rattle.layout.proofs.first_present.Tie as tie
+use Rattle.layout.proofs.measuring.first_present.Statement.{statement}
+use Rattle.layout.proofs.measuring.first_present.Tie as tie
 
 returns : tie.Need-returns
 returns c = none-before (c .before .before .args .d) (c .if1 .taken)

@@ -2,8 +2,8 @@
 use mathlib.Core.Path.{ap, _∙_}
 use borrow.Author.Needs.{needs}
 use Rattle.layout.specs.Answers.{lengthOf}
-use Rattle.command.proofs.units.vertex_bytes.Statement.{statement}
-use Rattle.command.proofs.units.vertex_bytes.Tie as tie
+use Rattle.command.proofs.vertex_bytes.Statement.{statement}
+use Rattle.command.proofs.vertex_bytes.Tie as tie
 
 descriptor-requires : tie.Need-descriptor-requires
 descriptor-requires c κs = search needs

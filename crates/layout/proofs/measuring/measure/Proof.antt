@@ -1,8 +1,8 @@
 -- No position is 9, an unknown format 10, and else the length is the sum of all attributes.
 use borrow.Author.Needs.{needs}
 use Rattle.layout.proofs.Meanings.{measured}
-use Rattle.layout.proofs.measure.Statement.{statement}
-use Rattle.layout.proofs.measure.Tie as tie
+use Rattle.layout.proofs.measuring.measure.Statement.{statement}
+use Rattle.layout.proofs.measuring.measure.Tie as tie
 
 tally-requires : tie.Need-tally-requires
 tally-requires c κs = search needs

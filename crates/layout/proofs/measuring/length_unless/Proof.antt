@@ -1,7 +1,7 @@
 -- The tests are those of the definition, in its order.
 use mathlib.Core.Path.{refl}
-use Rattle.layout.proofs.length_unless.Statement.{statement}
-use Rattle.layout.proofs.length_unless.Tie as tie
+use Rattle.layout.proofs.measuring.length_unless.Statement.{statement}
+use Rattle.layout.proofs.measuring.length_unless.Tie as tie
 
 returns : tie.Need-returns
 returns c = rw (c .if1 .taken) (record { answer-is = refl; length-is = refl })
