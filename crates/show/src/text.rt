@@ -31,33 +31,46 @@ fn hex_digit(n: u32) -> u8 {
     55 + (n % 16) as u8
 }
 
-// Puts the lowest digit in hexadecimal.
-pub fn put_hex1(out: &mut [u8; 120], at: usize, n: u32) -> usize {
-    put_byte(out, at, hex_digit(n))
-}
-
 // Puts the two lowest digits.
-pub fn put_hex2(out: &mut [u8; 120], at: usize, n: u32) -> usize {
-    let next = put_hex1(out, at, n / 16);
-    put_hex1(out, next, n)
+fn put_two(out: &mut [u8; 120], at: usize, n: u32) -> usize {
+    let next = put_byte(out, at, hex_digit(n / 16));
+    put_byte(out, next, hex_digit(n))
 }
 
 // Puts the four lowest digits.
-pub fn put_hex4(out: &mut [u8; 120], at: usize, n: u32) -> usize {
-    let next = put_hex2(out, at, n / 256);
-    put_hex2(out, next, n)
+fn put_four(out: &mut [u8; 120], at: usize, n: u32) -> usize {
+    let next = put_two(out, at, n / 256);
+    put_two(out, next, n)
 }
 
-// Puts the six lowest digits.
-pub fn put_hex6(out: &mut [u8; 120], at: usize, n: u32) -> usize {
-    let next = put_hex2(out, at, n / 65536);
-    put_hex4(out, next, n)
+// Puts a name and a number's lowest digit in hexadecimal.
+pub fn put_hex1(out: &mut [u8; 120], at: usize, name: &[u8], n: u32) -> usize {
+    let next = put(out, at, name);
+    put_byte(out, next, hex_digit(n))
 }
 
-// Puts all eight digits.
-pub fn put_hex8(out: &mut [u8; 120], at: usize, n: u32) -> usize {
-    let next = put_hex4(out, at, n / 65536);
-    put_hex4(out, next, n)
+// Two digits.
+pub fn put_hex2(out: &mut [u8; 120], at: usize, name: &[u8], n: u32) -> usize {
+    let next = put(out, at, name);
+    put_two(out, next, n)
+}
+
+// Four digits.
+pub fn put_hex4(out: &mut [u8; 120], at: usize, name: &[u8], n: u32) -> usize {
+    let next = put(out, at, name);
+    put_four(out, next, n)
+}
+
+// Six digits.
+pub fn put_hex6(out: &mut [u8; 120], at: usize, name: &[u8], n: u32) -> usize {
+    let next = put_hex2(out, at, name, n / 65536);
+    put_four(out, next, n)
+}
+
+// All eight digits.
+pub fn put_hex8(out: &mut [u8; 120], at: usize, name: &[u8], n: u32) -> usize {
+    let next = put_hex4(out, at, name, n / 65536);
+    put_four(out, next, n)
 }
 
 // Puts a number in decimal.

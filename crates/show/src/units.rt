@@ -15,10 +15,8 @@ pub const DRAW: u32 = 0x80;
 
 fn load_cp(address: u32, number: u32) -> bool {
     let mut out = [0u8; 120];
-    let at = put(&mut out, 0, b"cp load ");
-    let at = put_hex2(&mut out, at, address);
-    let at = put(&mut out, at, b" ");
-    let at = put_hex8(&mut out, at, number);
+    let at = put_hex2(&mut out, 0, b"cp load ", address);
+    let at = put_hex8(&mut out, at, b" ", number);
     text::send(&mut out, at)
 }
 
@@ -26,8 +24,7 @@ fn load_xf(words: u32, address: u32) -> bool {
     let mut out = [0u8; 120];
     let at = put(&mut out, 0, b"xf load ");
     let at = put_count(&mut out, at, words as u64, b" word", b" words");
-    let at = put(&mut out, at, b" at ");
-    let at = put_hex4(&mut out, at, address);
+    let at = put_hex4(&mut out, at, b" at ", address);
     text::send(&mut out, at)
 }
 
@@ -36,32 +33,24 @@ fn load_indexed(unit: [u32; 6]) -> bool {
     let mut out = [0u8; 120];
     let at = put(&mut out, 0, b"indexed load ");
     let at = put_count(&mut out, at, unit[2] as u64, b" word", b" words");
-    let at = put(&mut out, at, b" at ");
-    let at = put_hex4(&mut out, at, unit[3]);
-    let at = put(&mut out, at, b", array ");
-    let at = put_hex1(&mut out, at, 8 + unit[0] / 8 % 8);
-    let at = put(&mut out, at, b" index ");
-    let at = put_hex4(&mut out, at, unit[1]);
-    let at = put(&mut out, at, b", memory ");
-    let at = put_hex8(&mut out, at, unit[4]);
+    let at = put_hex4(&mut out, at, b" at ", unit[3]);
+    let at = put_hex1(&mut out, at, b", array ", 8 + unit[0] / 8 % 8);
+    let at = put_hex4(&mut out, at, b" index ", unit[1]);
+    let at = put_hex8(&mut out, at, b", memory ", unit[4]);
     text::send(&mut out, at)
 }
 
 fn call_list(address: u32, size: u32) -> bool {
     let mut out = [0u8; 120];
-    let at = put(&mut out, 0, b"call list ");
-    let at = put_hex8(&mut out, at, address);
-    let at = put(&mut out, at, b" size ");
-    let at = put_hex8(&mut out, at, size);
+    let at = put_hex8(&mut out, 0, b"call list ", address);
+    let at = put_hex8(&mut out, at, b" size ", size);
     text::send(&mut out, at)
 }
 
 fn load_bp(register: u32, number: u32) -> bool {
     let mut out = [0u8; 120];
-    let at = put(&mut out, 0, b"bp load ");
-    let at = put_hex2(&mut out, at, register);
-    let at = put(&mut out, at, b" ");
-    let at = put_hex6(&mut out, at, number);
+    let at = put_hex2(&mut out, 0, b"bp load ", register);
+    let at = put_hex6(&mut out, at, b" ", number);
     text::send(&mut out, at)
 }
 
@@ -83,8 +72,7 @@ fn draw_head(primitive: u32, format: u32, count: u32) -> bool {
     let mut out = [0u8; 120];
     let at = put(&mut out, 0, b"draw ");
     let at = put_primitive(&mut out, at, primitive);
-    let at = put(&mut out, at, b" format ");
-    let at = put_hex1(&mut out, at, format);
+    let at = put_hex1(&mut out, at, b" format ", format);
     let at = put(&mut out, at, b", ");
     let at = put_count(&mut out, at, count as u64, b" vertex", b" vertices");
     text::send(&mut out, at)
