@@ -243,7 +243,7 @@ fn tally(d: Descriptor) -> Sums
     ensures { λ r. ⌜ Tallied d r ⌝ }
 {
     let end = past_present(d);
-    let mut total: u32 = 0;
+    let mut total = 0;
     let mut found = false;
     let mut k = first_present(d);
     while k < end {
