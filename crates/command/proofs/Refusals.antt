@@ -1,12 +1,15 @@
 -- A layout's answer, as the look at a draw uses it.
 use mathlib.Core.Path.{_≡_, refl, ap, _∙_}
 use mathlib.Core.List.{[], _∷_}
-use Prim.Native.Nat.{ℕ, zero, suc, _≤_}
+use mathlib.Core.Bool.{cond}
+use Prim.Native.Nat.{ℕ, zero, suc, _-_, _≤_}
 use native.Mathlib.Nat.{not-suc-le-zero}
+use lib.Dec.{ltb}
+use borrow.Author.Tests.{le-ltb}
 use Rattle.refusal.specs.Number.{number}
 use Rattle.refusal.specs.declared.Reason.{Reason}
 use Rattle.refusal.proofs.Positive.{number-some}
-use Rattle.command.specs.Command.{Found, refused}
+use Rattle.command.specs.Command.{Found, waiting, refused}
 use Rattle.command.specs.Look.{unlessRefused}
 
 -- a number that is not 0 is a refusal
@@ -18,6 +21,11 @@ pub unless-refused : (r : Reason) (n : ℕ) (found : Found) → number r ∷ [] 
 unless-refused r n found e =
     let k : number r ≡ n = cc in
     unless-some (number r) found (number-some r) ∙ ap (λ (x : ℕ). unlessRefused x found) k
+
+-- where the bytes that decide it are there
+pub decided-refused : (r : Reason) (count deciding n : ℕ) (found : Found) → deciding ≤ count → number r ∷ [] ≡ n ∷ []
+    → cond (ltb count deciding) (waiting (deciding - count)) (refused (number r)) ≡ unlessRefused n found
+decided-refused r count deciding n found h e = rw (le-ltb count deciding h) (unless-refused r n found e)
 
 pub unless-accepted : (n : ℕ) (found : Found) → 0 ∷ [] ≡ n ∷ [] → found ≡ unlessRefused n found
 unless-accepted n found e =

@@ -7,8 +7,11 @@ use layout::Descriptor;
 use layout::LayoutAnswer;
 use refusal::Reason;
 ghost use mathlib.Core.Path.{_≡_};
-ghost use Prim.Native.Nat.{_+_, _<_, _≤_};
-ghost use Rattle.command.specs.Command.{numbersOf, meaning};
+ghost use mathlib.Core.Bool.{cond};
+ghost use Prim.Native.Nat.{_-_, _<_, _≤_};
+ghost use lib.Dec.{ltb};
+ghost use Rattle.refusal.specs.Number.{number};
+ghost use Rattle.command.specs.Command.{numbersOf, meaning, waiting, refused};
 ghost use Rattle.command.specs.Look.{whole, lookCp, lookXf, lookIndexed, lookCall};
 ghost use Rattle.command.specs.Look.{lookBp, lookHead, lookVertex, memoryOf, descriptorOf};
 
@@ -24,6 +27,16 @@ pub fn unit(count: u32, length: u32, command: Command, memory: u32) -> Next
         memory,
         length,
     }
+}
+
+// A refusal that the first bytes decide, so many of them: it waits for those that it lacks.
+fn decided(count: u32, deciding: u32, reason: Reason) -> Next
+    ensures { λ r. ⌜ meaning r ≡ cond (ltb count deciding) (waiting (deciding - count)) (refused (number reason)) ⌝ }
+{
+    if count < deciding {
+        return Next::Waiting(deciding - count);
+    }
+    Next::Refused(reason)
 }
 
 // 08.
@@ -120,12 +133,13 @@ pub fn descriptor(cp: &[u32; 60], format: u8) -> Descriptor
 
 // 80 to BF.
 pub fn look_head(op: u8, b: [u8; 9], count: u32, cp: &[u32; 60]) -> Next
+    requires { ⌜ 1 ≤ count ⌝ }
     ensures { λ r. ⌜ meaning r ≡ lookHead op b count (now (cp .entry)) ⌝ }
 {
     let measured = layout::measure(descriptor(cp, op % 8));
     let answer = measured.answer;
     match answer {
-        LayoutAnswer::Refused(reason) => Next::Refused(reason),
+        LayoutAnswer::Refused(reason) => decided(count, 1, reason),
         LayoutAnswer::Accepted => {
             let command = Command::DrawHead {
                 primitive: op / 8 % 8,
@@ -145,7 +159,7 @@ pub fn look_vertex(count: u32, cp: &[u32; 60], format: u8) -> Next
     let answer = measured.answer;
     let length = measured.length;
     match answer {
-        LayoutAnswer::Refused(reason) => Next::Refused(reason),
+        LayoutAnswer::Refused(reason) => decided(count, 0, reason),
         LayoutAnswer::Accepted => unit(count, length, Command::Vertex, 0),
     }
 }

@@ -173,13 +173,11 @@ pub fn colour_width(format: u32) -> u32
 pub fn components(k: usize, count: u32) -> u32
     ensures { λ r. ⌜ r ≡ componentsOf k count ⌝ }
 {
-    if k == 9 {
-        return 2 + count % 2;
+    match k {
+        9 => 2 + count % 2,
+        10 => 3 + 6 * (count % 2),
+        _ => 1 + count % 2,
     }
-    if k == 10 {
-        return 3 + 6 * (count % 2);
-    }
-    1 + count % 2
 }
 
 // The bytes of a direct attribute.

@@ -1,7 +1,8 @@
 -- `command::units::look_head` meets its contract:
 -- the measure's answer is the definition's refusal, and the count stands big-endian after the opcode.
 use borrow.Author.Needs.{needs}
-use Rattle.command.proofs.Refusals.{unless-refused, unless-accepted}
+use native.Mathlib.Omega.{arith}
+use Rattle.command.proofs.Refusals.{decided-refused, unless-accepted}
 use Rattle.command.specs.Look.{lookHead}
 use mathlib.Core.Path.{_∙_}
 use Rattle.octets.proofs.Number.{two-bytes}
@@ -16,6 +17,9 @@ measure-requires c κs = search needs
 
 enum-known-answer : tie.Need-enum-known-answer
 enum-known-answer c = search needs
+
+decided-requires : tie.Need-decided-requires
+decided-requires c κs = search needs
 
 enum-told : tie.Need-enum-told
 enum-told c = search needs
@@ -35,9 +39,11 @@ unit-requires c κs = search needs
 returns : tie.Need-returns
 unfolding lookHead
 returns c =
-    let at = c .before .before .before in
+    let told = c .before .before in
+    let at = told .before .before in
     rw (← at .before .descriptor .ensures)
-    (unless-refused (c .before .answer .given .0 .0) _ _ (rw (c .before .answer .given .1) at (at .measure .ensures .answer-is)))
+    (c .decided .ensures
+    ∙ decided-refused (told .answer .given .0 .0) (at .before .before .args .count) 1 _ _ (omega arith) (rw (told .answer .given .1) at (at .measure .ensures .answer-is)))
 
 returns-2 : tie.Need-returns-2
 unfolding lookHead
@@ -54,6 +60,7 @@ look-head-spec =
     descriptor-requires
     measure-requires
     enum-known-answer
+    decided-requires
     enum-told
     array-read-half
     array-read-half-2

@@ -1,7 +1,8 @@
 -- `command::units::look_vertex` meets its contract: the layout's answer is the definition's refusal, and its length the vertex's.
 use borrow.Author.Needs.{needs}
+use native.Mathlib.Omega.{arith}
 use mathlib.Core.Path.{_∙_}
-use Rattle.command.proofs.Refusals.{unless-refused, unless-accepted}
+use Rattle.command.proofs.Refusals.{decided-refused, unless-accepted}
 use Rattle.command.specs.Look.{lookVertex}
 use Rattle.command.proofs.units.look_vertex.Statement.{statement}
 use Rattle.command.proofs.units.look_vertex.Tie as tie
@@ -15,6 +16,9 @@ measure-requires c κs = search needs
 enum-known-answer : tie.Need-enum-known-answer
 enum-known-answer c = search needs
 
+decided-requires : tie.Need-decided-requires
+decided-requires c κs = search needs
+
 enum-told : tie.Need-enum-told
 enum-told c = search needs
 
@@ -24,9 +28,11 @@ unit-requires c κs = search needs
 returns : tie.Need-returns
 unfolding lookVertex
 returns c =
-    let at = c .before .before .before in
+    let told = c .before .before in
+    let at = told .before .before in
     rw (← at .before .descriptor .ensures)
-    (unless-refused (c .before .answer .given .0 .0) _ _ (rw (c .before .answer .given .1) at (at .measure .ensures .answer-is)))
+    (c .decided .ensures
+    ∙ decided-refused (told .answer .given .0 .0) (at .before .before .args .count) 0 _ _ (omega arith) (rw (told .answer .given .1) at (at .measure .ensures .answer-is)))
 
 returns-2 : tie.Need-returns-2
 unfolding lookVertex
@@ -43,6 +49,7 @@ look-vertex-spec =
     descriptor-requires
     measure-requires
     enum-known-answer
+    decided-requires
     enum-told
     unit-requires
     returns
