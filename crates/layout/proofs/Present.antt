@@ -4,15 +4,15 @@ use mathlib.Core.Bool.{Bool, true, false, cond, _||_}
 use Prim.Native.Nat.{ℕ, zero, suc, _+_, _-_, _/_, _%_, _^_, _<_, _≤_}
 use native.Mathlib.Nat.{zero-div, zero-mod, add-zero}
 use native.Mathlib.Omega.{arith}
-use lib.Dec.{T, leb, ltb}
+use lib.Dec.{T, leb, ltb, eqb}
 use lib.ListN.{getD}
-use borrow.Author.Tests.{lt-ltb, le-ltb, leb-true}
+use borrow.Author.Tests.{lt-ltb, le-ltb, leb-true, eqb-true, ne-eqb}
 use mathlib.Core.Logic.{⊎-elim}
 use Rattle.laws.proofs.Cases.{order}
 use Rattle.laws.proofs.Table.{at, both, both-left, both-right}
 use Rattle.layout.specs.declared.Descriptor.{Descriptor}
-use Rattle.layout.specs.Fields.{bitsAt, placeIn, modes, modeOf}
-use Rattle.layout.specs.Sizes.{sizeOf, offsetOf, unknownAt, anyUnknown, NoneBefore, NoneFrom}
+use Rattle.layout.specs.Fields.{bitsAt, placeIn, modes, formats, modeOf, formatOf}
+use Rattle.layout.specs.Sizes.{sizeOf, offsetOf, unknownAt, anyUnknown, NoneFrom}
 use Rattle.layout.proofs.Tests.{size-matrix, size-absent, unknown-absent}
 use Rattle.layout.proofs.Ignored.{low-bits, is-true}
 
@@ -51,22 +51,40 @@ module _ (d : Descriptor) where
       let r : p % 32 ≡ p = omega arith in
       rw (lt-ltb k 9 h, lt-ltb k 21 below, z, r) (clear (d .vcd0) 9 p 1 l e)
 
-  before : ((k : ℕ) → k < 9 → modeOf d k ≡ 0) → (n : ℕ) → n ≤ 9 → (offsetOf d n ≡ 0) × (anyUnknown d n ≡ false)
-  unfolding offsetOf anyUnknown
-  before a zero h = (refl, refl)
-  before a (suc n) h =
-      let i = before a n (omega arith) in
-      let m = a n h in
-      (sum-absent n m ∙ i .0, any-absent n m ∙ i .1)
+  before : ((k : ℕ) → k < 9 → modeOf d k ≡ 0) → (n : ℕ) → n ≤ 9 → offsetOf d n ≡ 0
+  unfolding offsetOf
+  before a zero h = refl
+  before a (suc n) h = sum-absent n (a n h) ∙ before a n (omega arith)
 
-  pub none-before : d .vcd0 % 2 ^ 9 ≡ 0 → NoneBefore d 9
-  none-before e =
-      let b = before (matrix-absent e) 9 (omega arith) in
-      record { most = omega arith; sum-is = b .0; unknown-is = b .1 }
+  pub no-matrices : d .vcd0 % 2 ^ 9 ≡ 0 → 0 ≡ offsetOf d 9
+  no-matrices e = sym (before (matrix-absent e) 9 (omega arith))
 
-  pub none-before-first : NoneBefore d 0
-  unfolding offsetOf anyUnknown
-  none-before-first = record { most = omega arith; sum-is = refl; unknown-is = refl }
+  -- a matrix has no format that could be unknown
+  matrix-format : (k : ℕ) → k < 9 → formatOf d k ≡ 0
+  unfolding formatOf bitsAt formats
+  matrix-format k h =
+      let below : k < 21 = omega arith in
+      let p : getD formats k 0 ≡ 160 = eqb-true (getD formats k 0) 160 (is-true _ (at (λ i. eqb (getD formats i 0) 160) 9 tt k h)) in
+      rw (lt-ltb k 21 below, p)
+
+  known-by : (b : Bool) (f : ℕ) → f ≡ 0 → cond b false (leb 5 f) ≡ false
+  known-by true f e = refl
+  known-by false f e = rw e
+
+  matrix-known : (k : ℕ) → k < 9 → unknownAt d k ≡ false
+  unfolding unknownAt
+  matrix-known k h =
+      let e : eqb k 11 ≡ false = ne-eqb k 11 (λ z. omega arith) in
+      let g : eqb k 12 ≡ false = ne-eqb k 12 (λ z. omega arith) in
+      rw (e, g) (known-by (eqb (modeOf d k) 0) (formatOf d k) (matrix-format k h))
+
+  known : (n : ℕ) → n ≤ 9 → anyUnknown d n ≡ false
+  unfolding anyUnknown
+  known zero h = refl
+  known (suc n) h = rw (known n (omega arith), matrix-known n h)
+
+  pub matrices-known : false ≡ anyUnknown d 9
+  matrices-known = sym (known 9 (omega arith))
 
   -- ---- the eight textures
   texture-absent : d .vcd1 % 2 ^ 16 ≡ 0 → (k : ℕ) → 13 ≤ k → k < 21 → modeOf d k ≡ 0

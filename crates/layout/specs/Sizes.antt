@@ -57,12 +57,6 @@ anyUnknown d (suc n) = anyUnknown d n || unknownAt d n
 
 -- ---- for the code's own functions: attributes that need no look
 
--- no attribute before k is present
-pub record NoneBefore (d : Descriptor) (k : ℕ) : Type 0 where
-  pub most : k ≤ 9
-  pub sum-is : offsetOf d k ≡ 0
-  pub unknown-is : anyUnknown d k ≡ false
-
 -- no attribute from k on is present
 pub record NoneFrom (d : Descriptor) (k : ℕ) : Type 0 where
   pub least : 9 ≤ k

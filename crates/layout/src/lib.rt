@@ -6,10 +6,12 @@ mod places;
 pub use measuring::measure;
 use refusal::Reason;
 ghost use mathlib.Core.Path.{_≡_};
+ghost use mathlib.Core.Bool.{cond};
+ghost use lib.Dec.{leb};
 ghost use Prim.Native.Nat.{ℕ, _<_, _≤_};
 ghost use lib.ListN.{getD};
 ghost use Rattle.layout.specs.Fields.{words, bitsAt, modeOf, countOf, formatOf, fractionBits, fractionOf, indicesOf, fieldOf};
-ghost use Rattle.layout.specs.Sizes.{isColour, colourWidth, componentsOf, directOf, sizeOf, unknownAt};
+ghost use Rattle.layout.specs.Sizes.{isColour, colourWidth, componentsOf, directOf, sizeOf};
 ghost use Rattle.layout.specs.Answers.{Laid, Filled, Emptied};
 
 // What names a vertex's attributes and their formats: the two words of the VCD, and the three of the VAT in use.
@@ -207,15 +209,14 @@ fn size(d: Descriptor, k: usize) -> u32
     indices(d, k) * (m - 1)
 }
 
-// Whether attribute k is present in a format that is none.
-fn unknown(d: Descriptor, k: usize) -> bool
-    ensures { λ r. ⌜ r ≡ unknownAt d k ⌝ }
+// Whether attribute k has no such format.
+fn unknown_format(k: usize, format: u32) -> bool
+    ensures { λ r. ⌜ r ≡ leb (cond (isColour k) 6 5) format ⌝ }
 {
-    if mode(d, k) == 0 {
-        return false;
+    if is_colour(k) {
+        return 6 <= format;
     }
-    let f = format(d, k);
-    if is_colour(k) { 6 <= f } else { 5 <= f }
+    5 <= format
 }
 
 // The layout of a descriptor that is not refused.

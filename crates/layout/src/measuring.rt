@@ -2,14 +2,19 @@
 use crate::Descriptor;
 use crate::Extent;
 use crate::LayoutAnswer;
+use crate::count;
+use crate::direct;
+use crate::format;
+use crate::indices;
 use crate::mode;
-use crate::size;
-use crate::unknown;
+use crate::unknown_format;
 use refusal::Reason;
+ghost use mathlib.Core.Path.{_≡_};
 ghost use mathlib.Core.Bool.{cond};
+ghost use Prim.Native.Nat.{_≤_};
 ghost use Rattle.refusal.specs.Number.{number};
-ghost use Rattle.layout.specs.Sizes.{NoneBefore, NoneFrom};
-ghost use Rattle.layout.specs.Answers.{Measured, MeasuredAs, Tallied};
+ghost use Rattle.layout.specs.Sizes.{offsetOf, NoneFrom};
+ghost use Rattle.layout.specs.Answers.{Measured, MeasuredAs, Weighed, Tallied};
 
 // The bytes of all attributes, and whether one is present in a format that is none.
 pub struct Sums {
@@ -17,11 +22,52 @@ pub struct Sums {
     pub unknown: bool,
 }
 
-// The first attribute to look at: no matrix is present where the nine bits are clear.
-fn first_present(d: Descriptor) -> usize
-    ensures { λ r. ⌜ NoneBefore d r ⌝ }
+// What one attribute adds: its bytes, and whether it is present in a format that is none.
+pub struct Part {
+    pub bytes: u32,
+    pub unknown: bool,
+}
+
+// The bytes of the nine matrices; no matrix is present where the nine bits are clear.
+fn matrices(d: Descriptor) -> u32
+    ensures { λ r. ⌜ r ≡ offsetOf d 9 ⌝ }
 {
-    if d.vcd0 % 512 == 0 { 9 } else { 0 }
+    if d.vcd0 % 512 == 0 {
+        return 0;
+    }
+    let mut total: u32 = 0;
+    let mut k: usize = 0;
+    while k < 9 {
+        total += mode(d, k);
+        k += 1;
+    }
+    total
+}
+
+// What attribute k adds, which is no matrix.
+fn weigh(d: Descriptor, k: usize) -> Part
+    requires { ⌜ 9 ≤ k ⌝ }
+    ensures { λ r. ⌜ Weighed d k r ⌝ }
+{
+    let m = mode(d, k);
+    if m == 0 {
+        return Part {
+            bytes: 0,
+            unknown: false,
+        };
+    }
+    let f = format(d, k);
+    let unknown = unknown_format(k, f);
+    if m == 1 {
+        return Part {
+            bytes: direct(k, count(d, k), f),
+            unknown,
+        };
+    }
+    Part {
+        bytes: indices(d, k) * (m - 1),
+        unknown,
+    }
 }
 
 // The attribute past the last to look at: no texture is present where the sixteen bits are clear.
@@ -36,16 +82,13 @@ fn tally(d: Descriptor) -> Sums
     ensures { λ r. ⌜ Tallied d r ⌝ }
 {
     let end = past_present(d);
-    let mut total: u32 = 0;
+    let mut total = matrices(d);
     let mut found = false;
-    let mut k = first_present(d);
+    let mut k: usize = 9;
     while k < end {
-        if mode(d, k) == 0 {
-            k += 1;
-            continue;
-        }
-        total += size(d, k);
-        found = found | unknown(d, k);
+        let part = weigh(d, k);
+        total += part.bytes;
+        found = found | part.unknown;
         k += 1;
     }
     Sums {

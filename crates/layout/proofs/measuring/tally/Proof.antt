@@ -1,16 +1,13 @@
--- From the first attribute that may be present to past the last, the total is the sum so far and the flag the definition's; what is left out
--- adds nothing to either.
+-- The matrices first, then attribute by attribute past the last that may be present; what is left out adds nothing.
 use mathlib.Core.Path.{_≡_, sym, ap, _∙_}
 use mathlib.Core.Bool.{Bool}
 use Prim.Native.Nat.{ℕ, _-_, _≤_}
-use native.Mathlib.Numerals.{add-one}
 use native.Mathlib.Omega.{arith}
 use borrow.Author.Needs.{needs}
 use Rattle.layout.specs.declared.Descriptor.{Descriptor}
-use Rattle.layout.specs.Fields.{modeOf}
 use Rattle.layout.specs.Sizes.{offsetOf, anyUnknown, NoneFrom}
 use Rattle.layout.proofs.Tests.{sum-next, any-next}
-use Rattle.layout.proofs.Present.{sum-absent, any-absent}
+use Rattle.layout.proofs.Present.{matrices-known}
 use Rattle.layout.proofs.Bounds.{size-small, offset-le}
 use Rattle.layout.proofs.measuring.tally.Statement.{statement}
 use Rattle.layout.proofs.measuring.tally.Tie as tie
@@ -18,6 +15,7 @@ use Rattle.layout.proofs.measuring.tally.Tie as tie
 -- what holds before attribute k
 record Turn (d : Descriptor) (end total : ℕ) (found : Bool) (k : ℕ) : Type 0 where
   pub ends : NoneFrom d end
+  pub least : 9 ≤ k
   pub below : k ≤ end
   pub sum : total ≡ offsetOf d k
   pub any : found ≡ anyUnknown d k
@@ -31,17 +29,23 @@ abbrev μ-loop : tie.MeasureT-loop
 past-present-requires : tie.Need-past-present-requires Inv-loop μ-loop
 past-present-requires c κs = search needs
 
-first-present-requires : tie.Need-first-present-requires Inv-loop μ-loop
-first-present-requires c κs = search needs
+matrices-requires : tie.Need-matrices-requires Inv-loop μ-loop
+matrices-requires c κs = search needs
 
 loop-holds : tie.Need-loop-holds Inv-loop μ-loop
 loop-holds c =
-    let f = c .first-present .ensures in
     let p = c .before .past-present .ensures in
-    record { ends = p; below = omega (arith, f .most, p .least); sum = sym (f .sum-is); any = sym (f .unknown-is) }
+    record { ends = p; least = omega arith; below = p .least; sum = c .matrices .ensures; any = matrices-known _ }
 
-mode-requires : tie.Need-mode-requires Inv-loop μ-loop
-mode-requires c κs = search needs
+weigh-requires : tie.Need-weigh-requires Inv-loop μ-loop
+weigh-requires c κs = c .before .loop .inv .least
+
+add-total : tie.Need-add-total Inv-loop μ-loop
+add-total c =
+    let w = c .before .weigh in
+    let lp = c .before .before .before .loop in
+    let d = c .before .before .before .before .before .before .args .d in
+    omega (arith, lp .inv .sum, offset-le d (lp .k) (omega (arith, lp .inv .ends .most)), w .ensures .bytes-are, size-small d (lp .k))
 
 add-k : tie.Need-add-k Inv-loop μ-loop
 add-k c = search needs
@@ -51,44 +55,15 @@ loop-less c = search needs
 
 loop-again : tie.Need-loop-again Inv-loop μ-loop
 loop-again c =
-    let lp = c .before .before .before .loop in
-    let d = c .before .before .before .before .before .before .args .d in
-    let m : modeOf d (lp .k) ≡ 0 = sym (c .before .mode .ensures) ∙ c .if1 .taken in
-    record {
-      ends = lp .inv .ends;
-      below = omega arith;
-      sum = rw add-one (lp .inv .sum ∙ sym (sum-absent d (lp .k) m));
-      any = rw add-one (lp .inv .any ∙ sym (any-absent d (lp .k) m));
-    }
-
-size-requires : tie.Need-size-requires Inv-loop μ-loop
-size-requires c κs = search needs
-
-add-total : tie.Need-add-total Inv-loop μ-loop
-add-total c =
+    let w = c .before .before .weigh in
     let lp = c .before .before .before .before .loop in
     let d = c .before .before .before .before .before .before .before .args .d in
-    let most = lp .inv .ends .most in
-    omega (arith, lp .inv .sum, offset-le d (lp .k) (omega (arith, most)), c .size .ensures, size-small d (lp .k))
-
-unknown-requires : tie.Need-unknown-requires Inv-loop μ-loop
-unknown-requires c κs = search needs
-
-add-k-2 : tie.Need-add-k-2 Inv-loop μ-loop
-add-k-2 c = search needs
-
-loop-less-2 : tie.Need-loop-less-2 Inv-loop μ-loop
-loop-less-2 c = search needs
-
-loop-again-2 : tie.Need-loop-again-2 Inv-loop μ-loop
-loop-again-2 c =
-    let lp = c .before .before .before .before .before .loop in
-    let d = c .before .before .before .before .before .before .before .before .args .d in
     record {
       ends = lp .inv .ends;
+      least = omega (arith, lp .inv .least);
       below = omega arith;
-      sum = sum-next d (lp .k) (lp .total) (c .before .size .result) (lp .inv .sum) (c .before .size .ensures);
-      any = any-next d (lp .k) (lp .found) (c .unknown .result) (lp .inv .any) (c .unknown .ensures);
+      sum = sum-next d (lp .k) (lp .total) (w .result .bytes) (lp .inv .sum) (w .ensures .bytes-are);
+      any = any-next d (lp .k) (lp .found) (w .result .unknown) (lp .inv .any) (w .ensures .unknown-is);
     }
 
 returns : tie.Need-returns Inv-loop μ-loop
@@ -109,16 +84,11 @@ tally-spec =
     Inv-loop
     μ-loop
     past-present-requires
-    first-present-requires
+    matrices-requires
     loop-holds
-    mode-requires
+    weigh-requires
+    add-total
     add-k
     loop-less
     loop-again
-    size-requires
-    add-total
-    unknown-requires
-    add-k-2
-    loop-less-2
-    loop-again-2
     returns)
