@@ -5,7 +5,9 @@ use crate::machine::RING;
 use crate::player::{sides, Input, Sides, Work};
 use crate::proved::FormatWords;
 use crate::random::Random;
-use crate::streams::{bp_loads, draws, long_draw, mixed, repeated, xf_loads, Stream};
+use crate::streams::{
+    bp_loads, cp_loads, draws, long_draw, mixed, no_operations, repeated, xf_loads, Stream,
+};
 use crate::timing::Side;
 use crate::vertices::{layouts, positions};
 
@@ -69,6 +71,8 @@ pub fn rows() -> Result<Vec<Row>, String> {
         }
     }
     rows.push(stream_row("mixed stream", mixed(ROOM))?);
+    rows.push(stream_row("CP loads", cp_loads(ROOM))?);
+    rows.push(stream_row("no-operations", no_operations(ROOM))?);
     rows.extend(feed_rows()?);
     rows.push(step_row()?);
     rows.push(row("layout, per layout".into(), layouts())?);
