@@ -1,9 +1,10 @@
 //! The command processor of document 01, in plain safe Rust.
 //!
 //! Written from document 01 (with 004, 000 and 001 where it refers to them)
-//! and the readings page, and from nothing else: it is a second, independent
-//! implementation to compare another one with. Quotations in comments are
-//! document 01's unless another page is named.
+//! and the readings page: it is a second implementation to compare another one
+//! with. No line of it comes from the other one; later changes for speed were
+//! made with the other one known (`rust/README.md`). Quotations in comments
+//! are document 01's unless another page is named.
 #![forbid(unsafe_code)]
 
 mod attribute;
