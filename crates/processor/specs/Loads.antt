@@ -56,7 +56,8 @@ Follow ring cursor bp xf zero cursor' bp' xf' = (cursor' ≡ cursor) × ((bp' �
 Follow ring cursor bp xf (suc n) cursor' bp' xf' = Next (Follow ring cursor bp xf n) ring cursor' bp' xf'
 
 -- what is taken: some loads, no more than are allowed, and none in an open draw
-pub record TakesLoads (cursor : Cursor) (ring bp xf : List ℕ) (draw : Draw) (most : ℕ) (cursor' : Cursor) (units : ℕ) (bp' xf' : List ℕ) : Type 0 where
+pub record TakesLoads (cursor : Cursor) (ring bp xf : List ℕ) (draw : Draw) (most : ℕ)
+    (cursor' : Cursor) (units : ℕ) (bp' xf' : List ℕ) : Type 0 where
   pub within : units ≤ most
   pub closed : (units ≡ 0 → ⊥) → draw ≡ Closed
   pub loads : Follow ring cursor bp xf units cursor' bp' xf'

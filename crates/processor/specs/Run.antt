@@ -1,4 +1,5 @@
--- "A run stops at its limit, at waiting or at a refusal, the limit tested first; it keeps the units before and reports how many there were."
+-- "A run stops at its limit, at waiting or at a refusal, the limit tested first; it keeps the units before and reports how many
+-- there were."
 use mathlib.Core.Path.{_≡_}
 use mathlib.Core.List.{List, [], _∷_}
 use Prim.Native.Nat.{ℕ, zero, suc, min}
@@ -56,10 +57,12 @@ abbrev pub entryOf : Fifo → List ℕ → List ℕ → Draw → List ℕ → Li
 entryOf f cp bp draw xf buffer = record { fifo = f; cp = cp; bp = bp; draw = draw; xf = xf; buffer = buffer }
 
 -- where steps arrive: how many there were, why they ended, and what they left
-pub record Arrives (ring : List ℕ) (limit : ℕ) (s : State) (stop : List ℕ) (fifo : Fifo) (cp bp : List ℕ) (draw : Draw) (xf buffer : List ℕ) (units : ℕ) : Type 0 where
+pub record Arrives (ring : List ℕ) (limit : ℕ) (s : State)
+    (stop : List ℕ) (fifo : Fifo) (cp bp : List ℕ) (draw : Draw) (xf buffer : List ℕ) (units : ℕ) : Type 0 where
   pub units-are : units ≡ length (steps ring limit s .units)
   pub stop-is : stop ≡ steps ring limit s .stop
-  pub state-is : _≡_ {A = State} (record { fifo = fifo; cp = cp; bp = bp; draw = draw; xf = xf; buffer = buffer }) (steps ring limit s .state)
+  pub state-is :
+      _≡_ {A = State} (record { fifo = fifo; cp = cp; bp = bp; draw = draw; xf = xf; buffer = buffer }) (steps ring limit s .state)
 
 -- the most units of a run
 unfoldable pub runLimit : ℕ

@@ -114,7 +114,8 @@ pub fn step(
     xf: &mut [u32],
     buffer: &mut [u8],
 ) -> Stepped
-    ensures { λ r. ⌜ Steps (now (ring .entry)) (stateOf fifo registers (now (xf .entry)) (now (buffer .entry))) r (now (xf .exit)) (now (buffer .exit)) ⌝ }
+    ensures { λ r. ⌜ Steps (now (ring .entry)) (stateOf fifo registers (now (xf .entry)) (now (buffer .entry)))
+        r (now (xf .exit)) (now (buffer .exit)) ⌝ }
 {
     let mut cp = registers.cp;
     let mut bp = registers.bp;
@@ -150,7 +151,8 @@ pub fn run(
     buffer: &mut [u8],
     limit: u32,
 ) -> Ran
-    ensures { λ r. ⌜ Reports (runOf (now (ring .entry)) limit (stateOf fifo registers (now (xf .entry)) (now (buffer .entry)))) r (now (xf .exit)) (now (buffer .exit)) ⌝ }
+    ensures { λ r. ⌜ Reports (runOf (now (ring .entry)) limit (stateOf fifo registers (now (xf .entry)) (now (buffer .entry))))
+        r (now (xf .exit)) (now (buffer .exit)) ⌝ }
 {
     let mut cp = registers.cp;
     let mut bp = registers.bp;

@@ -96,7 +96,8 @@ pub(crate) fn take_loads(
     draw: Draw,
     most: u32,
 ) -> Loads
-    ensures { λ r. ⌜ TakesLoads cursor (now (ring .entry)) (now (bp .entry)) (now (xf .entry)) draw most (r .cursor) (r .units) (now (bp .exit)) (now (xf .exit)) ⌝ }
+    ensures { λ r. ⌜ TakesLoads cursor (now (ring .entry)) (now (bp .entry)) (now (xf .entry)) draw most
+        (r .cursor) (r .units) (now (bp .exit)) (now (xf .exit)) ⌝ }
 {
     let Draw::Closed = draw else {
         return Loads { cursor, units: 0 };

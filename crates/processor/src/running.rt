@@ -42,7 +42,8 @@ fn stop_for(answer: StepAnswer) -> Stop
     }
 }
 
-// Takes units off the queue of a state that has passed 1 to 5: "A run stops at its limit, at waiting or at a refusal, the limit tested first".
+// Takes units off the queue of a state that has passed 1 to 5:
+// "A run stops at its limit, at waiting or at a refusal, the limit tested first".
 // After each unit the whole vertices of a draw that it leaves open are taken in one move, and the loads that follow in one call.
 pub(crate) fn take_units(
     fifo: Fifo,
@@ -55,7 +56,10 @@ pub(crate) fn take_units(
     limit: u32,
 ) -> Course
     requires { ⌜ gateBy fifo (now cp) (now bp) first (length (now ring)) (length (now xf)) (length (now buffer)) ≡ 0 ⌝ }
-    ensures { λ r. ⌜ Arrives (now (ring .entry)) limit (entryOf fifo (now (cp .entry)) (now (bp .entry)) first (now (xf .entry)) (now (buffer .entry))) (meaningOfStop (r .stop)) (r .fifo) (now (cp .exit)) (now (bp .exit)) (r .draw) (now (xf .exit)) (now (buffer .exit)) (r .units) ⌝ }
+    ensures { λ r. ⌜ Arrives (now (ring .entry)) limit
+        (entryOf fifo (now (cp .entry)) (now (bp .entry)) first (now (xf .entry)) (now (buffer .entry)))
+        (meaningOfStop (r .stop)) (r .fifo) (now (cp .exit)) (now (bp .exit))
+        (r .draw) (now (xf .exit)) (now (buffer .exit)) (r .units) ⌝ }
 {
     let mut cursor = fifo::open(fifo);
     let mut draw = first;

@@ -29,7 +29,9 @@ fn execute(
     buffer: &mut [u8],
 )
     requires { ⌜ n ≤ 129 ⌝ }
-    ensures { λ _. ⌜ Applied (numbersOf command) (bytesAt cursor (now (ring .entry)) n) (now (cp .entry)) (now (bp .entry)) (now (xf .entry)) (now (buffer .entry)) (now (cp .exit)) (now (bp .exit)) (now (xf .exit)) (now (buffer .exit)) ⌝ }
+    ensures { λ _. ⌜ Applied (numbersOf command) (bytesAt cursor (now (ring .entry)) n)
+        (now (cp .entry)) (now (bp .entry)) (now (xf .entry)) (now (buffer .entry))
+        (now (cp .exit)) (now (bp .exit)) (now (xf .exit)) (now (buffer .exit)) ⌝ }
 {
     let at = cursor.at as usize;
     let end = at + n as usize;
@@ -52,7 +54,9 @@ pub fn take(
     xf: &mut [u32],
     buffer: &mut [u8],
 ) -> Moved
-    ensures { λ r. ⌜ Takes (seen cursor (now (ring .entry)) (now (cp .entry)) draw) cursor (now (ring .entry)) (now (cp .entry)) (now (bp .entry)) draw (now (xf .entry)) (now (buffer .entry)) (r .answer) (r .cursor) (r .draw) (now (cp .exit)) (now (bp .exit)) (now (xf .exit)) (now (buffer .exit)) ⌝ }
+    ensures { λ r. ⌜ Takes (seen cursor (now (ring .entry)) (now (cp .entry)) draw)
+        cursor (now (ring .entry)) (now (cp .entry)) (now (bp .entry)) draw (now (xf .entry)) (now (buffer .entry))
+        (r .answer) (r .cursor) (r .draw) (now (cp .exit)) (now (bp .exit)) (now (xf .exit)) (now (buffer .exit)) ⌝ }
 {
     let bytes = fifo::peek(cursor, ring);
     let next = command::look(bytes, cursor.left, cp, draw);

@@ -1,4 +1,5 @@
-// All whole vertices of an open draw that are pending, taken in one move: only the last is copied, because each overwrites the one before it.
+// All whole vertices of an open draw that are pending, taken in one move: only the last is copied, because each overwrites the one
+// before it.
 // It is that many units taken one after the other (proofs/Ahead.antt).
 use command::Draw;
 use fifo::Cursor;
@@ -40,7 +41,8 @@ pub fn take_vertices(
     buffer: &mut [u8],
     most: u32,
 ) -> Batch
-    ensures { λ r. ⌜ TakesVertices cursor (now (ring .entry)) (now (cp .entry)) draw (now (buffer .entry)) most (r .cursor) (r .draw) (r .units) (now (buffer .exit)) ⌝ }
+    ensures { λ r. ⌜ TakesVertices cursor (now (ring .entry)) (now (cp .entry)) draw (now (buffer .entry)) most
+        (r .cursor) (r .draw) (r .units) (now (buffer .exit)) ⌝ }
 {
     match draw {
         Draw::Closed => Batch {
