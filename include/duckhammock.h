@@ -8,7 +8,8 @@
  *
  * A function returns 0 where the call was accepted, a unit was done or the
  * limit was reached, DUCKHAMMOCK_WAITING, or the number of a refusal. A refused
- * call or unit changes nothing.
+ * call or unit changes nothing that the state says; values beside the answer
+ * are then zeros.
  */
 #ifndef DUCKHAMMOCK_H
 #define DUCKHAMMOCK_H
@@ -29,7 +30,8 @@ extern "C" {
 #define DUCKHAMMOCK_MOST_UNITS 65535
 
 /*
- * The state's words. The draw's four are 0 while no draw is open. A word too
+ * The state's words. A draw is open where word 7 is not 0, and then a call
+ * leaves it as 1; the draw's four words are 0 while no draw is open. A word too
  * large for its field counts modulo the field's width, 16 bits for the control
  * word and the vertices left, 8 for the primitive and the format; a call that
  * may change the state leaves it so, also where it is refused.

@@ -132,7 +132,7 @@ pub fn descriptor(cp: &[u32; 60], format: u8) -> Descriptor
 }
 
 // 80 to BF.
-pub fn look_head(op: u8, b: [u8; 9], count: u32, cp: &[u32; 60]) -> Next
+pub(crate) fn look_head(op: u8, b: [u8; 9], count: u32, cp: &[u32; 60]) -> Next
     requires { ⌜ 1 ≤ count ⌝ }
     ensures { λ r. ⌜ meaning r ≡ lookHead op b count (now (cp .entry)) ⌝ }
 {

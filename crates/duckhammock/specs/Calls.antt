@@ -1,4 +1,5 @@
--- What each call answers and leaves in what it was lent. Whatever words a state was given in, a call leaves it in the words of `wordsBy`.
+-- What each call answers and leaves in what it was lent. Whatever words a state was given in, a
+-- call that may change it leaves it in the words of `wordsBy`.
 use mathlib.Core.Path.{_≡_}
 use mathlib.Core.Bool.{cond}
 use mathlib.Core.List.{List, [], _∷_}

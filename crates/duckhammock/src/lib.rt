@@ -1,4 +1,4 @@
-// The library's calls on numbers and slices, for C and Rust to link, and for the program `replay`.
+// The library's calls on numbers and slices, for C and Rust to link, and for the programs `replay` and `show`.
 //
 // The state is 327 words that the caller keeps (specs/State.antt). A call that is lent them as `&mut` reads what they say, a number too
 // large for its field modulo the field's width, and leaves the words of the state after it, also where it is refused: a draw that is open

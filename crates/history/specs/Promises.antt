@@ -29,7 +29,7 @@ Conserved =
     (w : World) (cs : List Call) → AllHarmless cs
     → countAt (afterAll w cs) + consumedBy (unitsAll w cs) ≡ countAt w + length (fedAll w cs)
 
--- "Answers other than waiting don't change when more bytes are fed." (proofs/Fed, and those below)
+-- "Answers other than waiting don't change when more bytes are fed." (proofs/Fed, and those below but the last)
 abbrev pub StepFed : Type 0
 StepFed =
     (w : World) (bytes : List ℕ) → Settled (stepFound (w .ring) (w .state))
@@ -70,7 +70,7 @@ StepWords =
     (w : World) (n address : ℕ) (words : List ℕ) → WrittenAlone w (LoadXf n address) words → WordsFit words
     → take n (drop address (stepOf (w .ring) (w .state) .xf)) ≡ words
 
--- a state that passes 1 to 5 passes them after a run
+-- a state that passes 1 to 5 passes them after a run (proofs/Passes)
 abbrev pub RunPasses : Type 0
 RunPasses =
     (ring : List ℕ) → Octets ring → (limit : ℕ) (s : State) → gateOf s (length ring) ≡ 0

@@ -1,6 +1,6 @@
 // All whole vertices of an open draw that are pending, taken in one move: only the last is copied, because each overwrites the one
 // before it.
-// It is that many units taken one after the other (proofs/Ahead.antt).
+// It is that many units taken one after the other (proofs/Wholes.antt).
 use command::Draw;
 use fifo::Cursor;
 ghost use mathlib.Core.Path.{_≡_};

@@ -9,8 +9,8 @@ use std::num::wrapping_add_u64;
 // The number of a read that fails, which no answer has.
 const UNREADABLE: u32 = 256;
 
-// Units, draw heads, vertices and bytes consumed; the vertices taken of the last draw; the last answer's number (0 before the first, 255
-// for waiting, else a refusal's) and the bytes lacking beside it; whether reading goes on.
+// Units, draw heads, vertices and bytes consumed; the vertices taken of the last draw; the last answer's number (0 before the first
+// and for a unit done, 255 for waiting, else a refusal's or UNREADABLE) and the bytes lacking beside it; whether reading goes on.
 pub struct Tally {
     pub units: u64,
     pub draws: u64,
