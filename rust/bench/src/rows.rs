@@ -72,7 +72,7 @@ pub fn rows() -> Result<Vec<Row>, String> {
     }
     rows.push(stream_row("mixed stream", mixed(ROOM))?);
     rows.push(stream_row("CP loads", cp_loads(ROOM))?);
-    rows.push(stream_row("no-operations", no_operations(ROOM))?);
+    rows.push(stream_row("no-operations", no_operations(ROOM / 2))?);
     rows.extend(feed_rows()?);
     rows.push(step_row()?);
     rows.push(row("layout, per layout".into(), layouts())?);
