@@ -1,4 +1,4 @@
-pub mod Saving
-pub mod Floats
-pub mod Calls
-pub mod ReadBack
+pub mod Refusals
+pub mod Lending
+pub mod Windows
+pub mod Units

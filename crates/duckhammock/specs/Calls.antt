@@ -1,64 +1,65 @@
--- What each call answers and leaves in what it was lent. Whatever words a state was given in, a
--- call that may change it leaves it in the words of `wordsBy`.
+-- What each call on the state answers and leaves. "A refusal carries its number from document 01; the refused call or unit changes no
+-- register, ring byte or output byte. An unfinished unit waits and changes nothing either": each equation for what was lent says that it is
+-- changed where the answer is 0, and else what it was.
 use mathlib.Core.Path.{_≡_}
-use mathlib.Core.Bool.{cond}
+use mathlib.Core.Bool.{Bool, cond}
 use mathlib.Core.List.{List, [], _∷_}
 use Prim.Native.Nat.{ℕ}
-use lib.ListN.{length, drop, replicate}
-use Rattle.laws.specs.Values.{upTo}
-use Rattle.layout.specs.declared.Descriptor.{Descriptor}
-use Rattle.layout.specs.Sizes.{sizeOf, offsetOf}
-use Rattle.layout.specs.Answers.{refusalOf, acceptedOf, lengthOf}
-use Rattle.vertex.specs.Answers.{decodingOf}
+use lib.Dec.{eqb}
+use lib.ListN.{length}
+use Rattle.command.specs.Command.{Found}
 use Rattle.fifo.specs.Feeding.{feedRefusal, fifoAfter, ringAfter}
 use Rattle.fifo.specs.Registers.{readAnswer, writeAnswer, written}
 use Rattle.processor.specs.State.{State, drawingOf}
 use Rattle.processor.specs.Step.{stepFound, stepOf}
 use Rattle.processor.specs.Run.{Ended}
-use Rattle.duckhammock.specs.State.{fifoOf, drawOf, registersOf, wordsBy, wordsOf}
-use Rattle.duckhammock.specs.Told.{firstOf, secondOf, padded, stepNumber, stepWords}
+use Rattle.words.specs.State.{fifoOf, drawOf, wordsOf, withFifo}
+use Rattle.words.specs.Told.{firstOf, secondOf, stepNumber, lackingOf, unitOf}
 
--- a hardware register read: the answer byte, and the value, 0 unless accepted
-pub record Reads (words : List ℕ) (offset r value : ℕ) : Type 0 where
-  pub answer-is : r ≡ firstOf (readAnswer (fifoOf words) (drawingOf (drawOf words)) offset)
-  pub value-is : value ≡ secondOf (readAnswer (fifoOf words) (drawingOf (drawOf words)) offset)
+-- the answer of a hardware register read
+abbrev pub readingOf : List ℕ → ℕ → List ℕ
+readingOf words offset = readAnswer (fifoOf words) (drawingOf (drawOf words)) offset
 
--- a hardware register written
+-- a hardware register read
+pub record Reads (words : List ℕ) (offset value r value' : ℕ) : Type 0 where
+  pub answer-is : r ≡ firstOf (readingOf words offset)
+  pub value-is : value' ≡ cond (eqb r 0) (secondOf (readingOf words offset)) value
+
+-- a hardware register written: of the state's words only the fifo's may change
 pub record Writes (words : List ℕ) (offset value r : ℕ) (words' : List ℕ) : Type 0 where
   pub answer-is : r ≡ firstOf (writeAnswer offset)
-  pub state-is : words' ≡ wordsBy (written (fifoOf words) offset value) (registersOf words)
+  pub state-is : words' ≡ cond (eqb r 0) (withFifo words (written (fifoOf words) offset value)) words
 
--- bytes fed
+-- bytes fed: of the state's words only the fifo's may change, and `accept` moves the write pointer alone
 pub record Feeds (words ring bytes : List ℕ) (r : ℕ) (words' ring' : List ℕ) : Type 0 where
   pub answer-is : r ≡ feedRefusal (fifoOf words) (length ring) (length bytes)
-  pub state-is : words' ≡ wordsBy (fifoAfter (fifoOf words) ring bytes) (registersOf words)
-  pub ring-is : ring' ≡ ringAfter (fifoOf words) ring bytes
+  pub state-is : words' ≡ cond (eqb r 0) (withFifo words (fifoAfter (fifoOf words) ring bytes)) words
+  pub ring-is : ring' ≡ cond (eqb r 0) (ringAfter (fifoOf words) ring bytes) ring
 
--- a step at the state s
-pub record Tells (ring : List ℕ) (s : State) (r : ℕ) (answer words' xf' vertex' : List ℕ) : Type 0 where
+-- what a call was lent: the state's words, the XF words and the vertex buffer
+pub record Lent : Type 0 where
+  pub words : List ℕ
+  pub xf : List ℕ
+  pub vertex : List ℕ
+
+abbrev pub lentOf : List ℕ → List ℕ → List ℕ → Lent
+lentOf words xf vertex = record { words = words; xf = xf; vertex = vertex }
+
+-- the same, lent as a state's words and memory
+abbrev pub lentBy : State → Lent
+lentBy s = lentOf (wordsOf s) (s .xf) (s .buffer)
+
+-- a step at the state s that was lent so: the unit's words, where one was done, and the bytes lacking
+pub record Tells (ring : List ℕ) (s : State) (lent : Lent) (unit : List ℕ) (r : ℕ) (lent' : Lent) (unit' : List ℕ) (lacking' : ℕ) :
+    Type 0 where
   pub answer-is : r ≡ stepNumber (stepFound ring s)
-  pub told-are : answer ≡ stepWords (stepFound ring s)
-  pub state-is : words' ≡ wordsOf (stepOf ring s)
-  pub xf-is : xf' ≡ stepOf ring s .xf
-  pub vertex-is : vertex' ≡ stepOf ring s .buffer
+  pub lacking-is : lacking' ≡ lackingOf (stepFound ring s)
+  pub unit-is : unit' ≡ cond (eqb r 0) (unitOf (stepFound ring s)) unit
+  pub lent-is : lent' ≡ cond (eqb r 0) (lentBy (stepOf ring s)) lent
 
--- a run that ended so: the units done, and the bytes lacking, 0 unless waiting
-pub record Ends (e : Ended) (r : ℕ) (answer words' xf' vertex' : List ℕ) : Type 0 where
+-- a run that ended so, of a state that was lent so: the units done and the bytes lacking, 0 unless it waits, are told whatever its answer.
+-- A run of no unit changes nothing.
+pub record Ends (e : Ended) (lent : Lent) (r : ℕ) (lent' : Lent) (report' : List ℕ) : Type 0 where
   pub answer-is : r ≡ firstOf (e .stop)
-  pub told-are : answer ≡ length (e .units) ∷ secondOf (e .stop) ∷ []
-  pub state-is : words' ≡ wordsOf (e .state)
-  pub xf-is : xf' ≡ e .state .xf
-  pub vertex-is : vertex' ≡ e .state .buffer
-
--- a vertex laid out; refused: zeros
-pub record LaysOut (d : Descriptor) (r : ℕ) (sizes offsets : List ℕ) (length : ℕ) : Type 0 where
-  pub answer-is : r ≡ refusalOf d
-  pub length-is : length ≡ lengthOf d
-  pub sizes-are : sizes ≡ cond (acceptedOf d) (upTo (sizeOf d) 21) (replicate 21 0)
-  pub offsets-are : offsets ≡ cond (acceptedOf d) (upTo (offsetOf d) 21) (replicate 21 0)
-
--- an attribute decoded: its kind and values, then zeros; refused: zeros. That each component is exact is what `vertex::decode` promises of
--- the same numbers (`Decodes`).
-pub record Gives (d : Descriptor) (k : ℕ) (vertex : List ℕ) (r : ℕ) (answer : List ℕ) : Type 0 where
-  pub answer-is : r ≡ firstOf (decodingOf d k vertex)
-  pub told-are : answer ≡ padded 10 (drop 1 (decodingOf d k vertex))
+  pub report-is : report' ≡ length (e .units) ∷ secondOf (e .stop) ∷ []
+  pub lent-is : lent' ≡ cond (eqb (length (e .units)) 0) lent (lentBy (e .state))

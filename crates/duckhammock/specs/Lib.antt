@@ -1,3 +1,2 @@
-pub mod State
-pub mod Told
 pub mod Calls
+pub mod Formats

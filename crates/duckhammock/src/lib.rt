@@ -1,22 +1,40 @@
-// The library's calls on numbers and slices, for C and Rust to link, and for the programs `replay` and `show`.
+// The library's calls on numbers and slices, for C and Rust to link, and for the program `show`. `include/duckhammock.h` says them in C's
+// words.
 //
-// The state is 327 words that the caller keeps (specs/State.antt). A call that is lent them as `&mut` reads what they say, a number too
-// large for its field modulo the field's width, and leaves the words of the state after it, also where it is refused: a draw that is open
-// has 1 in word 7, and while none is open words 7 to 10 are 0.
-//
-// The number returned is 0 where the call was accepted, a unit was done or the limit was reached, 255 for waiting, and else the refusal's
-// number.
-mod answers;
-mod attributes;
-mod words;
+// The state is 327 words that the caller keeps (`words`, specs/State.antt). The number returned is 0 where the call was accepted, a unit was
+// done or the limit was reached, 255 for waiting, and else the refusal's number. A refused or waiting call changes nothing that it was lent,
+// but a step's bytes lacking and a run's report are told whatever the answer.
+mod formats;
+mod patches;
 
-use layout::LayoutAnswer;
+use fifo::Answer;
+use fifo::Fifo;
+use fifo::Reading;
+pub use formats::duckhammock_decode;
+pub use formats::duckhammock_lay_out;
+pub use formats::duckhammock_raw_words;
+pub use patches::duckhammock_check_patch;
+pub use patches::duckhammock_merge_patches;
+pub use patches::duckhammock_write_command;
+pub use patches::duckhammock_write_patch;
+use processor::StepAnswer;
+use refusal::Reason;
+use words::Front;
 ghost use mathlib.Core.Path.{_≡_};
-ghost use Rattle.layout.specs.Answers.{meaning};
+ghost use Rattle.refusal.specs.Number.{number};
 ghost use Rattle.processor.specs.Run.{runOf};
-ghost use Rattle.duckhammock.specs.State.{stateAt, freshWords};
-ghost use Rattle.duckhammock.specs.Told.{firstOf, descriptorOf};
-ghost use Rattle.duckhammock.specs.Calls.{Reads, Writes, Feeds, Tells, Ends, LaysOut, Gives};
+ghost use Rattle.words.specs.State.{stateAt, freshWords};
+ghost use Rattle.duckhammock.specs.Calls.{Reads, Writes, Feeds, lentOf, Tells, Ends};
+
+// The hardware offset of the control register, whose state word may be wider than the register.
+const CONTROL: u16 = 0x002;
+
+// A refusal's number.
+fn refused(reason: Reason) -> u32
+    ensures { λ r. ⌜ r ≡ number reason ⌝ }
+{
+    refusal::number(reason) as u32
+}
 
 // The fresh state.
 #[no_mangle]
@@ -26,19 +44,33 @@ pub extern "C" fn duckhammock_fresh(state: &mut [u32; 327])
     let machine = processor::fresh();
     let fifo = machine.fifo;
     let registers = machine.registers;
-    words::save(state, fifo, registers);
+    let cp = registers.cp;
+    let bp = registers.bp;
+    let draw = registers.draw;
+    words::save(state, fifo, &cp, &bp, draw);
 }
 
-// Reads a hardware register; the value is 0 where it is refused.
+// Reads a hardware register; the control register as its word stands.
 #[no_mangle]
 pub extern "C" fn duckhammock_read_register(state: &[u32; 327], offset: u16, value: &mut u32) -> u32
-    ensures { λ r. ⌜ Reads (now (state .entry)) offset r (now (value .exit)) ⌝ }
+    ensures { λ r. ⌜ Reads (now (state .entry)) offset (now (value .entry)) r (now (value .exit)) ⌝ }
 {
-    let fifo = words::load_fifo(state);
-    let registers = words::load_registers(state);
-    let reading = processor::read_register(fifo, registers, offset);
-    *value = answers::reading_value(reading);
-    answers::reading_number(reading)
+    if offset == CONTROL {
+        *value = state[6];
+        return 0;
+    }
+    let fifo = Fifo {
+        window: words::window(state),
+        control: 0,
+    };
+    let reading = fifo::read_register(fifo, state[7] != 0, offset);
+    match reading {
+        Reading::Refused(reason) => refused(reason),
+        Reading::Value(held) => {
+            *value = held as u32;
+            0
+        }
+    }
 }
 
 // Writes a hardware register.
@@ -46,13 +78,22 @@ pub extern "C" fn duckhammock_read_register(state: &[u32; 327], offset: u16, val
 pub extern "C" fn duckhammock_write_register(state: &mut [u32; 327], offset: u16, value: u16) -> u32
     ensures { λ r. ⌜ Writes (now (state .entry)) offset value r (now (state .exit)) ⌝ }
 {
-    let fifo = words::load_fifo(state);
-    let registers = words::load_registers(state);
+    let fifo = Fifo {
+        window: words::window(state),
+        control: 0,
+    };
     let changed = fifo::write_register(fifo, offset, value);
-    let written = changed.fifo;
     let answer = changed.answer;
-    words::save(state, written, registers);
-    answers::answer_number(answer)
+    let after = changed.fifo;
+    if let Answer::Refused(reason) = answer {
+        return refused(reason);
+    }
+    if offset == CONTROL {
+        words::save_control(state, after.control);
+        return 0;
+    }
+    words::save_window(state, after.window);
+    0
 }
 
 // Feeds bytes to the ring.
@@ -60,40 +101,60 @@ pub extern "C" fn duckhammock_write_register(state: &mut [u32; 327], offset: u16
 pub extern "C" fn duckhammock_feed(state: &mut [u32; 327], ring: &mut [u8], bytes: &[u8]) -> u32
     ensures { λ r. ⌜ Feeds (now (state .entry)) (now (ring .entry)) (now (bytes .entry)) r (now (state .exit)) (now (ring .exit)) ⌝ }
 {
-    let fifo = words::load_fifo(state);
-    let registers = words::load_registers(state);
+    let fifo = Fifo {
+        window: words::window(state),
+        control: 0,
+    };
     let changed = fifo::feed(fifo, ring, bytes);
-    let fed = changed.fifo;
     let answer = changed.answer;
-    words::save(state, fed, registers);
-    answers::answer_number(answer)
+    let after = changed.fifo;
+    if let Answer::Refused(reason) = answer {
+        return refused(reason);
+    }
+    words::save_write(state, after.window.write);
+    0
 }
 
-// Takes one unit. Its six numbers: of a unit the kind, a, b, c, d and its bytes; of waiting the bytes lacking, then zeros; of a refusal
-// zeros.
+// Takes one unit: its command's five words and its bytes, and the bytes lacking, 0 unless it waits.
 #[no_mangle]
 pub extern "C" fn duckhammock_step(
     state: &mut [u32; 327],
     ring: &[u8],
     xf: &mut [u32],
     vertex: &mut [u8],
-    answer: &mut [u32; 6],
+    unit: &mut [u32; 6],
+    lacking: &mut u32,
 ) -> u32
     ensures { λ r. ⌜ Tells (now (ring .entry)) (stateAt (now (state .entry)) (now (xf .entry)) (now (vertex .entry)))
-        r (now (answer .exit)) (now (state .exit)) (now (xf .exit)) (now (vertex .exit)) ⌝ }
+        (lentOf (now (state .entry)) (now (xf .entry)) (now (vertex .entry))) (now (unit .entry))
+        r (lentOf (now (state .exit)) (now (xf .exit)) (now (vertex .exit))) (now (unit .exit)) (now (lacking .exit)) ⌝ }
 {
-    let fifo = words::load_fifo(state);
-    let registers = words::load_registers(state);
-    let stepped = processor::step(fifo, registers, ring, xf, vertex);
+    let front = words::read_front(state);
+    let Front::Held { fifo, draw } = front else {
+        *lacking = 0;
+        return refused(Reason::InvalidState);
+    };
+    let mut cp = words::cp(state);
+    let mut bp = words::bp(state);
+    let stepped = processor::step(fifo, &mut cp, &mut bp, draw, ring, xf, vertex);
+    let answer = stepped.answer;
+    *lacking = words::step_lacking(answer);
+    let StepAnswer::Done {
+        command,
+        memory,
+        length,
+    } = answer
+    else {
+        return words::step_number(answer);
+    };
     let after = stepped.fifo;
-    let left = stepped.registers;
-    let said = stepped.answer;
-    words::save(state, after, left);
-    *answer = answers::step_words(said);
-    answers::step_number(said)
+    let left = stepped.draw;
+    words::save(state, after, &cp, &bp, left);
+    *unit = words::unit_words(command, memory, length);
+    0
 }
 
-// Takes units until the limit, waiting or a refusal. Its two numbers: the units done, and the bytes lacking, 0 unless it waits.
+// Takes units until the limit, waiting or a refusal. Its report: the units done, and the bytes lacking, 0 unless it waits.
 #[no_mangle]
 pub extern "C" fn duckhammock_run(
     state: &mut [u32; 327],
@@ -101,63 +162,29 @@ pub extern "C" fn duckhammock_run(
     xf: &mut [u32],
     vertex: &mut [u8],
     limit: u32,
-    answer: &mut [u32; 2],
+    report: &mut [u32; 2],
 ) -> u32
     ensures { λ r. ⌜ Ends (runOf (now (ring .entry)) limit (stateAt (now (state .entry)) (now (xf .entry)) (now (vertex .entry))))
-        r (now (answer .exit)) (now (state .exit)) (now (xf .exit)) (now (vertex .exit)) ⌝ }
+        (lentOf (now (state .entry)) (now (xf .entry)) (now (vertex .entry)))
+        r (lentOf (now (state .exit)) (now (xf .exit)) (now (vertex .exit))) (now (report .exit)) ⌝ }
 {
-    let fifo = words::load_fifo(state);
-    let registers = words::load_registers(state);
-    let ran = processor::run(fifo, registers, ring, xf, vertex, limit);
-    let last = ran.fifo;
-    let held = ran.registers;
+    let front = words::read_front(state);
+    let Front::Held { fifo, draw } = front else {
+        *report = [0, 0];
+        return refused(Reason::InvalidState);
+    };
+    let mut cp = words::cp(state);
+    let mut bp = words::bp(state);
+    let ran = processor::run(fifo, &mut cp, &mut bp, draw, ring, xf, vertex, limit);
     let stop = ran.stop;
-    words::save(state, last, held);
-    let told = [ran.units, answers::stop_lacking(stop)];
-    *answer = told;
-    answers::stop_number(stop)
-}
-
-fn layout_number(answer: LayoutAnswer) -> u32
-    ensures { λ r. ⌜ r ≡ firstOf (meaning answer) ⌝ }
-{
-    match answer {
-        LayoutAnswer::Accepted => 0,
-        LayoutAnswer::Refused(reason) => refusal::number(reason) as u32,
+    let units = ran.units;
+    let told = [units, words::stop_lacking(stop)];
+    *report = told;
+    if units == 0 {
+        return words::stop_number(stop);
     }
-}
-
-// The layout of a vertex: each attribute's bytes, the sum of those before it, and the length; zeros where it is refused.
-#[no_mangle]
-pub extern "C" fn duckhammock_lay_out(
-    words: &[u32; 5],
-    sizes: &mut [u8; 21],
-    offsets: &mut [u8; 21],
-    length: &mut u32,
-) -> u32
-    ensures { λ r. ⌜ LaysOut (descriptorOf (now (words .entry))) r (now (sizes .exit)) (now (offsets .exit)) (now (length .exit)) ⌝ }
-{
-    let laid = layout::lay_out(attributes::descriptor(words));
-    let bytes = laid.sizes;
-    let before = laid.offsets;
-    let answer = laid.answer;
-    *sizes = bytes;
-    *offsets = before;
-    *length = laid.length;
-    layout_number(answer)
-}
-
-// One attribute of a vertex: its kind and nine values, zeros where unused or refused.
-#[no_mangle]
-pub extern "C" fn duckhammock_decode(
-    words: &[u32; 5],
-    attribute: u32,
-    vertex: &[u8],
-    answer: &mut [u32; 10],
-) -> u32
-    ensures { λ r. ⌜ Gives (descriptorOf (now (words .entry))) attribute (now (vertex .entry)) r (now (answer .exit)) ⌝ }
-{
-    let decoded = vertex::decode(attributes::descriptor(words), attribute as usize, vertex);
-    *answer = attributes::decoding_words(decoded);
-    attributes::decoding_number(decoded)
+    let last = ran.fifo;
+    let left = ran.draw;
+    words::save(state, last, &cp, &bp, left);
+    words::stop_number(stop)
 }

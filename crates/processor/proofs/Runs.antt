@@ -9,7 +9,6 @@ use Rattle.refusal.specs.declared.Reason.{Reason}
 use Rattle.refusal.proofs.Positive.{number-some}
 use Rattle.command.specs.declared.Draw.{Draw}
 use Rattle.fifo.specs.declared.Fifo.{Fifo}
-use Rattle.processor.specs.declared.Registers.{Registers}
 use Rattle.processor.specs.declared.Stop.{Stop}
 use Rattle.processor.specs.declared.Stop.the-variants.{Refused}
 use Rattle.processor.specs.State.{State, stateOf}
@@ -21,12 +20,12 @@ gated-some : (n : ℕ) (s : State) (e : Ended) → 1 ≤ n → gated n s e ≡ e
 gated-some zero s e h = absurd (not-suc-le-zero h)
 gated-some (suc n) s e h = refl
 
-module _ (ring : List ℕ) (limit : ℕ) (fifo : Fifo) (registers : Registers) (xf buffer : List ℕ) where
+module _ (ring : List ℕ) (limit : ℕ) (fifo : Fifo) (cp bp : List ℕ) (draw : Draw) (xf buffer : List ℕ) where
   abbrev s : State
-  s = stateOf fifo registers xf buffer
+  s = stateOf fifo cp bp draw xf buffer
 
   pub run-refused : (r : Reason) → number r ∷ [] ≡ gateOf s (length ring) ∷ []
-      → Reports (runOf ring limit s) (record { fifo = fifo; registers = registers; units = 0; stop = Refused r }) xf buffer
+      → Reports (runOf ring limit s) (record { fifo = fifo; draw = draw; units = 0; stop = Refused r }) cp bp xf buffer
   unfolding runOf
   run-refused r e =
       let k : number r ≡ gateOf s (length ring) = cc in
@@ -34,8 +33,8 @@ module _ (ring : List ℕ) (limit : ℕ) (fifo : Fifo) (registers : Registers) (
       ap (λ (n : ℕ). gated n s (steps ring (min limit runLimit) s)) (sym k) ∙ gated-some (number r) s _ (number-some r) in
       rw g (record { units-are = refl; stop-is = refl; state-is = refl })
 
-  pub run-taken : {most units : ℕ} {stop : Stop} {left : Fifo} {cp bp : List ℕ} {draw : Draw} {xf' buffer' : List ℕ}
-      → gateOf s (length ring) ≡ 0 → most ≡ min limit runLimit → Arrives ring most s (meaningOfStop stop) left cp bp draw xf' buffer' units
-      → Reports (runOf ring limit s) (record { fifo = left; registers = record { cp = cp; bp = bp; draw = draw }; units = units; stop = stop }) xf' buffer'
+  pub run-taken : {most units : ℕ} {stop : Stop} {left : Fifo} {cp' bp' : List ℕ} {draw' : Draw} {xf' buffer' : List ℕ}
+      → gateOf s (length ring) ≡ 0 → most ≡ min limit runLimit → Arrives ring most s (meaningOfStop stop) left cp' bp' draw' xf' buffer' units
+      → Reports (runOf ring limit s) (record { fifo = left; draw = draw'; units = units; stop = stop }) cp' bp' xf' buffer'
   unfolding runOf
   run-taken g m a = rw (g, ← m) (record { units-are = a .units-are; stop-is = a .stop-is; state-is = a .state-is })

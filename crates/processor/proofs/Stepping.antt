@@ -15,7 +15,6 @@ use Rattle.fifo.specs.Window.{Ready, consume}
 use Rattle.fifo.specs.Cursor.{opened, closed}
 use Rattle.fifo.proofs.CursorLaws.{reads-pending}
 use Rattle.fifo.proofs.Moves.{consume-none}
-use Rattle.processor.specs.declared.Registers.{Registers}
 use Rattle.processor.specs.declared.StepAnswer.{StepAnswer}
 use Rattle.processor.specs.declared.StepAnswer.the-variants.{Refused}
 use Rattle.processor.specs.State.{State, stateOf}
@@ -24,16 +23,16 @@ use Rattle.processor.specs.Step.{lookAt, executed, after, stepFound, ste
 use Rattle.processor.proofs.Passing.{Passes, gate-passes}
 use Rattle.processor.proofs.Bridge.{TakesUnit}
 
-module _ (ring : List ℕ) (fifo : Fifo) (registers : Registers) (xf buffer : List ℕ) where
+module _ (ring : List ℕ) (fifo : Fifo) (cp bp : List ℕ) (draw : Draw) (xf buffer : List ℕ) where
   abbrev s : State
-  s = stateOf fifo registers xf buffer
+  s = stateOf fifo cp bp draw xf buffer
 
   pub found-refused : (r : Reason) → number r ∷ [] ≡ gateOf s (length ring) ∷ [] → refused (number r) ≡ stepFound ring s
   unfolding stepFound
   found-refused r e = unless-refused r (gateOf s (length ring)) (lookAt ring s) e
 
   pub steps-refused : (r : Reason) → number r ∷ [] ≡ gateOf s (length ring) ∷ []
-      → Steps ring s (record { fifo = fifo; registers = registers; answer = Refused r }) xf buffer
+      → Steps ring s (record { fifo = fifo; draw = draw; answer = Refused r }) cp bp xf buffer
   unfolding stepOf
   steps-refused r e =
       let f = found-refused r e in
@@ -55,7 +54,7 @@ module _ (ring : List ℕ) (s : State) (ready : Ready (s .fifo) (length ring)) w
 module _ (ring : List ℕ) (s : State) where
   pub steps-taken : {answer : StepAnswer} {cursor : Cursor} {draw : Draw} {cp bp xf buffer : List ℕ} {fifo : Fifo}
       → gateOf s (length ring) ≡ 0 → TakesUnit ring s answer cursor draw cp bp xf buffer → fifo ≡ closed (s .fifo) cursor
-      → Steps ring s (record { fifo = fifo; registers = record { cp = cp; bp = bp; draw = draw }; answer = answer }) xf buffer
+      → Steps ring s (record { fifo = fifo; draw = draw; answer = answer }) cp bp xf buffer
   unfolding stepOf stepFound
   steps-taken {cursor = cursor} g t f =
       let p : Passes s (length ring) = gate-passes s (length ring) g in

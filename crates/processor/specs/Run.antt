@@ -52,17 +52,12 @@ unfoldable pub steps : List ℕ → ℕ → State → Ended
 steps ring zero s = ended [] (0 ∷ []) s
 steps ring (suc n) s = goneOn (stepFound ring s) s (steps ring n (stepOf ring s))
 
--- the state at a run's entry
-abbrev pub entryOf : Fifo → List ℕ → List ℕ → Draw → List ℕ → List ℕ → State
-entryOf f cp bp draw xf buffer = record { fifo = f; cp = cp; bp = bp; draw = draw; xf = xf; buffer = buffer }
-
 -- where steps arrive: how many there were, why they ended, and what they left
 pub record Arrives (ring : List ℕ) (limit : ℕ) (s : State)
     (stop : List ℕ) (fifo : Fifo) (cp bp : List ℕ) (draw : Draw) (xf buffer : List ℕ) (units : ℕ) : Type 0 where
   pub units-are : units ≡ length (steps ring limit s .units)
   pub stop-is : stop ≡ steps ring limit s .stop
-  pub state-is :
-      _≡_ {A = State} (record { fifo = fifo; cp = cp; bp = bp; draw = draw; xf = xf; buffer = buffer }) (steps ring limit s .state)
+  pub state-is : stateOf fifo cp bp draw xf buffer ≡ steps ring limit s .state
 
 -- the most units of a run
 unfoldable pub runLimit : ℕ
@@ -78,7 +73,7 @@ unfoldable pub runOf : List ℕ → ℕ → State → Ended
 runOf ring limit s = gated (gateOf s (length ring)) s (steps ring (min limit runLimit) s)
 
 -- what a run leaves and answers, as it ended
-pub record Reports (e : Ended) (r : Ran) (xf buffer : List ℕ) : Type 0 where
+pub record Reports (e : Ended) (r : Ran) (cp bp xf buffer : List ℕ) : Type 0 where
   pub units-are : r .units ≡ length (e .units)
   pub stop-is : meaningOfStop (r .stop) ≡ e .stop
-  pub state-is : stateOf (r .fifo) (r .registers) xf buffer ≡ e .state
+  pub state-is : stateOf (r .fifo) cp bp (r .draw) xf buffer ≡ e .state

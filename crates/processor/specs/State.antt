@@ -9,7 +9,6 @@ use Rattle.effect.specs.Effect.{maskPlace}
 use Rattle.fifo.specs.declared.Fifo.{Fifo}
 use Rattle.fifo.specs.Window.{freshFifo}
 use Rattle.processor.specs.declared.Machine.{Machine}
-use Rattle.processor.specs.declared.Registers.{Registers}
 
 -- all that a unit can change: the fifo, the registers and open draw, and of the lent memory the XF words and the vertex buffer. The ring is
 -- lent too; a unit leaves it.
@@ -21,16 +20,8 @@ pub record State : Type 0 where
   pub xf : List ℕ
   pub buffer : List ℕ
 
-abbrev pub stateOf : Fifo → Registers → List ℕ → List ℕ → State
-stateOf f r xf buffer =
-    record {
-      fifo = f;
-      cp = r .cp;
-      bp = r .bp;
-      draw = r .draw;
-      xf = xf;
-      buffer = buffer;
-    }
+abbrev pub stateOf : Fifo → List ℕ → List ℕ → Draw → List ℕ → List ℕ → State
+stateOf f cp bp draw xf buffer = record { fifo = f; cp = cp; bp = bp; draw = draw; xf = xf; buffer = buffer }
 
 -- whether a draw is open
 abbrev pub drawingOf : Draw → Bool

@@ -56,6 +56,6 @@ unfoldable pub stepOf : List ℕ → State → State
 stepOf ring s = after ring s (stepFound ring s)
 
 -- what a step at the state s leaves and answers
-pub record Steps (ring : List ℕ) (s : State) (r : Stepped) (xf buffer : List ℕ) : Type 0 where
+pub record Steps (ring : List ℕ) (s : State) (r : Stepped) (cp bp xf buffer : List ℕ) : Type 0 where
   pub answer-is : meaning (r .answer) ≡ stepFound ring s
-  pub state-is : stateOf (r .fifo) (r .registers) xf buffer ≡ stepOf ring s
+  pub state-is : stateOf (r .fifo) cp bp (r .draw) xf buffer ≡ stepOf ring s

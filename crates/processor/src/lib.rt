@@ -17,7 +17,7 @@ ghost use Rattle.processor.specs.State.{stateOf, freshMachine, drawingOf
 ghost use Rattle.processor.specs.Step.{Steps};
 ghost use Rattle.processor.specs.Run.{runOf, Reports};
 
-// What ports share: the 60 CP registers, the 256 BP registers, and the open draw.
+// What ports share: the 60 CP registers, the 256 BP registers, and the open draw. A step and a run are lent the registers.
 pub struct Registers {
     pub cp: [u32; 60],
     pub bp: [u32; 256],
@@ -49,10 +49,10 @@ pub enum StepAnswer {
     Refused(Reason),
 }
 
-// What a step leaves and answers.
+// What a step leaves of the fifo and the draw, and its answer.
 pub struct Stepped {
     pub fifo: Fifo,
-    pub registers: Registers,
+    pub draw: Draw,
     pub answer: StepAnswer,
 }
 
@@ -63,10 +63,10 @@ pub enum Stop {
     Refused(Reason),
 }
 
-// What a run leaves, how many units it took, and why it stopped.
+// What a run leaves of the fifo and the draw, how many units it took, and why it stopped.
 pub struct Ran {
     pub fifo: Fifo,
-    pub registers: Registers,
+    pub draw: Draw,
     pub units: u32,
     pub stop: Stop,
 }
@@ -109,33 +109,32 @@ pub fn read_register(fifo: Fifo, registers: Registers, offset: u16) -> Reading
 // One unit: refusals 1 to 5, then the look at the queue, the command's effect, and its bytes dropped.
 pub fn step(
     fifo: Fifo,
-    registers: Registers,
+    cp: &mut [u32; 60],
+    bp: &mut [u32; 256],
+    draw: Draw,
     ring: &[u8],
     xf: &mut [u32],
     buffer: &mut [u8],
 ) -> Stepped
-    ensures { λ r. ⌜ Steps (now (ring .entry)) (stateOf fifo registers (now (xf .entry)) (now (buffer .entry)))
-        r (now (xf .exit)) (now (buffer .exit)) ⌝ }
+    ensures { λ r. ⌜ Steps (now (ring .entry))
+        (stateOf fifo (now (cp .entry)) (now (bp .entry)) draw (now (xf .entry)) (now (buffer .entry)))
+        r (now (cp .exit)) (now (bp .exit)) (now (xf .exit)) (now (buffer .exit)) ⌝ }
 {
-    let mut cp = registers.cp;
-    let mut bp = registers.bp;
-    let draw = registers.draw;
-    let gate = tests::pass(fifo, &cp, &bp, draw, ring.len(), xf.len(), buffer.len());
+    let gate = tests::pass(fifo, cp, bp, draw, ring.len(), xf.len(), buffer.len());
     match gate {
         Gate::Refused(reason) => Stepped {
             fifo,
-            registers,
+            draw,
             answer: StepAnswer::Refused(reason),
         },
         Gate::Passed => {
-            let moved = taking::take(fifo::open(fifo), ring, &mut cp, &mut bp, draw, xf, buffer);
+            let moved = taking::take(fifo::open(fifo), ring, cp, bp, draw, xf, buffer);
             let draw = moved.draw;
             let answer = moved.answer;
             let cursor = moved.cursor;
-            let registers = Registers { cp, bp, draw };
             Stepped {
                 fifo: fifo::close(fifo, cursor),
-                registers,
+                draw,
                 answer,
             }
         }
@@ -145,36 +144,35 @@ pub fn step(
 // A run of units: 1 to 5 once, then steps until the limit, waiting or a refusal. More than 65,535 units count as that.
 pub fn run(
     fifo: Fifo,
-    registers: Registers,
+    cp: &mut [u32; 60],
+    bp: &mut [u32; 256],
+    draw: Draw,
     ring: &[u8],
     xf: &mut [u32],
     buffer: &mut [u8],
     limit: u32,
 ) -> Ran
-    ensures { λ r. ⌜ Reports (runOf (now (ring .entry)) limit (stateOf fifo registers (now (xf .entry)) (now (buffer .entry))))
-        r (now (xf .exit)) (now (buffer .exit)) ⌝ }
+    ensures { λ r. ⌜ Reports (runOf (now (ring .entry)) limit
+        (stateOf fifo (now (cp .entry)) (now (bp .entry)) draw (now (xf .entry)) (now (buffer .entry))))
+        r (now (cp .exit)) (now (bp .exit)) (now (xf .exit)) (now (buffer .exit)) ⌝ }
 {
-    let mut cp = registers.cp;
-    let mut bp = registers.bp;
-    let draw = registers.draw;
     let most = running::capped(limit);
-    let gate = tests::pass(fifo, &cp, &bp, draw, ring.len(), xf.len(), buffer.len());
+    let gate = tests::pass(fifo, cp, bp, draw, ring.len(), xf.len(), buffer.len());
     match gate {
         Gate::Refused(reason) => Ran {
             fifo,
-            registers,
+            draw,
             units: 0,
             stop: Stop::Refused(reason),
         },
         Gate::Passed => {
-            let course = running::take_units(fifo, ring, &mut cp, &mut bp, draw, xf, buffer, most);
+            let course = running::take_units(fifo, ring, cp, bp, draw, xf, buffer, most);
             let draw = course.draw;
             let stop = course.stop;
             let left = course.fifo;
-            let registers = Registers { cp, bp, draw };
             Ran {
                 fifo: left,
-                registers,
+                draw,
                 units: course.units,
                 stop,
             }

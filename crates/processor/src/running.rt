@@ -11,7 +11,8 @@ ghost use Prim.Native.Nat.{min};
 ghost use lib.ListN.{length};
 ghost use Rattle.processor.specs.Gate.{gateBy};
 ghost use Rattle.processor.specs.Step.{meaning};
-ghost use Rattle.processor.specs.Run.{runLimit, stopOf, meaningOfStop, Arrives, entryOf};
+ghost use Rattle.processor.specs.State.{stateOf};
+ghost use Rattle.processor.specs.Run.{runLimit, stopOf, meaningOfStop, Arrives};
 
 // The most units of a run.
 pub const LIMIT: u32 = 65535;
@@ -57,7 +58,7 @@ pub(crate) fn take_units(
 ) -> Course
     requires { ⌜ gateBy fifo (now cp) (now bp) first (length (now ring)) (length (now xf)) (length (now buffer)) ≡ 0 ⌝ }
     ensures { λ r. ⌜ Arrives (now (ring .entry)) limit
-        (entryOf fifo (now (cp .entry)) (now (bp .entry)) first (now (xf .entry)) (now (buffer .entry)))
+        (stateOf fifo (now (cp .entry)) (now (bp .entry)) first (now (xf .entry)) (now (buffer .entry)))
         (meaningOfStop (r .stop)) (r .fifo) (now (cp .exit)) (now (bp .exit))
         (r .draw) (now (xf .exit)) (now (buffer .exit)) (r .units) ⌝ }
 {

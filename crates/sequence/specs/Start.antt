@@ -15,4 +15,9 @@ firstFifo =
 
 unfoldable pub firstWorld : World
 firstWorld =
-    record { state = stateOf firstFifo (freshMachine .registers) (replicate xfCount 0) (replicate 129 0); ring = replicate 256 0 }
+    record {
+      state =
+          stateOf firstFifo (freshMachine .registers .cp) (freshMachine .registers .bp) (freshMachine .registers .draw)
+          (replicate xfCount 0) (replicate 129 0);
+      ring = replicate 256 0;
+    }

@@ -33,14 +33,15 @@ fn step(
     vertex: &mut [u8],
     tally: Tally,
 ) -> Tally {
-    let mut answer = [0u32; 6];
-    let number = duckhammock::duckhammock_step(state, ring, xf, vertex, &mut answer);
+    let mut unit = [0u32; 6];
+    let mut lacking: u32 = 0;
+    let number = duckhammock::duckhammock_step(state, ring, xf, vertex, &mut unit, &mut lacking);
     if number != 0 {
-        return tally::stop(tally, number, answer[0]);
+        return tally::stop(tally, number, lacking);
     }
-    let mut next = tally::count(tally, answer);
+    let mut next = tally::count(tally, unit);
     next.number = 0;
-    let is_told = tell(state, answer, next);
+    let is_told = tell(state, unit, next);
     next.goes_on = is_told;
     next
 }

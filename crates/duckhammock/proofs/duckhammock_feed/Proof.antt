@@ -1,41 +1,50 @@
--- `duckhammock::duckhammock_feed` meets its contract: the ring is fed as the words say.
+-- `duckhammock::duckhammock_feed` meets its contract: the write pointer is stored, where the bytes are fed.
+use Rattle.duckhammock.proofs.Windows.{feeds-refused, feeds-done}
 use borrow.Author.Needs.{needs}
-use Rattle.duckhammock.proofs.Calls.{feeds}
 use Rattle.duckhammock.proofs.duckhammock_feed.Statement.{statement}
 use Rattle.duckhammock.proofs.duckhammock_feed.Tie as tie
 
-load-fifo-requires : tie.Need-load-fifo-requires
-load-fifo-requires c κs = search needs
-
-load-registers-requires : tie.Need-load-registers-requires
-load-registers-requires c κs = search needs
+window-requires : tie.Need-window-requires
+window-requires c κs = search needs
 
 feed-requires : tie.Need-feed-requires
 feed-requires c κs = search needs
 
-save-requires : tie.Need-save-requires
-save-requires c κs = search needs
+enum-known-answer : tie.Need-enum-known-answer
+enum-known-answer c = search needs
 
-answer-number-requires : tie.Need-answer-number-requires
-answer-number-requires c κs = search needs
+refused-requires : tie.Need-refused-requires
+refused-requires c κs = search needs
 
 same-length : tie.Need-same-length
 same-length c = search needs
 
 returns : tie.Need-returns
-returns c =
-    let k = c .before .before .before .before .before .before in
-    feeds _ (k .before .before .before .before .load-fifo .ensures) (k .before .before .load-registers .ensures) (k .feed .ensures)
-    (c .answer-number .ensures) (c .before .save .ensures)
+returns c = feeds-refused _ (c .before .before .before .before .before .before .before .before .before .window .ensures) (c .before .before .before .before .before .before .before .feed .ensures) _ (c .before .before .answer .given .1) (c .refused .ensures)
+
+enum-told : tie.Need-enum-told
+enum-told c = search needs
+
+save-write-requires : tie.Need-save-write-requires
+save-write-requires c κs = search needs
+
+same-length-2 : tie.Need-same-length-2
+same-length-2 c = search needs
+
+returns-2 : tie.Need-returns-2
+returns-2 c = feeds-done _ (c .before .before .before .before .before .before .before .before .before .window .ensures) (c .before .before .before .before .before .before .before .feed .ensures) (c .save-write .ensures) (c .before .before .enum-told .given .1)
 
 pub duckhammock-feed-spec : {M : Type 1} → statement M
 duckhammock-feed-spec =
     tie.close
     (tie.spec
-    load-fifo-requires
-    load-registers-requires
+    window-requires
     feed-requires
-    save-requires
-    answer-number-requires
+    enum-known-answer
+    refused-requires
     same-length
-    returns)
+    returns
+    enum-told
+    save-write-requires
+    same-length-2
+    returns-2)

@@ -1,8 +1,8 @@
--- `duckhammock::duckhammock_fresh` meets its contract: it saves the fresh machine.
-use borrow.Author.Needs.{needs}
+-- `duckhammock::duckhammock_fresh` meets its contract: the words of the fresh machine are saved.
 use mathlib.Core.Path.{ap, _∙_}
 use Rattle.processor.specs.declared.Machine.{Machine}
-use Rattle.duckhammock.specs.State.{wordsBy}
+use Rattle.words.specs.State.{wordsBy}
+use borrow.Author.Needs.{needs}
 use Rattle.duckhammock.proofs.duckhammock_fresh.Statement.{statement}
 use Rattle.duckhammock.proofs.duckhammock_fresh.Tie as tie
 
@@ -13,7 +13,7 @@ save-requires : tie.Need-save-requires
 save-requires c κs = search needs
 
 returns : tie.Need-returns
-returns c = c .save .ensures ∙ ap (λ (m : Machine). wordsBy (m .fifo) (m .registers)) (c .before .before .before .before .fresh .ensures)
+returns c = c .save .ensures ∙ ap (λ (m : Machine). wordsBy (m .fifo) (m .registers .cp) (m .registers .bp) (m .registers .draw)) (c .before .before .before .before .before .before .before .before .fresh .ensures)
 
 pub duckhammock-fresh-spec : {M : Type 1} → statement M
 duckhammock-fresh-spec = tie.close (tie.spec fresh-requires save-requires returns)

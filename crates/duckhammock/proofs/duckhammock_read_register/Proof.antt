@@ -1,37 +1,54 @@
--- `duckhammock::duckhammock_read_register` meets its contract: the register is read of what the words say.
+-- `duckhammock::duckhammock_read_register` meets its contract: the control register is its word, and every other is read of the window.
+use Rattle.duckhammock.proofs.Windows.{reads-control, reads-refused, reads-done}
 use borrow.Author.Needs.{needs}
-use Rattle.duckhammock.proofs.Calls.{reads}
 use Rattle.duckhammock.proofs.duckhammock_read_register.Statement.{statement}
 use Rattle.duckhammock.proofs.duckhammock_read_register.Tie as tie
 
-load-fifo-requires : tie.Need-load-fifo-requires
-load-fifo-requires c κs = search needs
+element-copy-out-value : tie.Need-element-copy-out-value
+element-copy-out-value c = search needs
 
-load-registers-requires : tie.Need-load-registers-requires
-load-registers-requires c κs = search needs
+returns : tie.Need-returns
+returns c = reads-control _ _ (c .before .if1 .taken)
+
+window-requires : tie.Need-window-requires
+window-requires c κs = search needs
+
+element-copy-out-read-register : tie.Need-element-copy-out-read-register
+element-copy-out-read-register c = search needs
 
 read-register-requires : tie.Need-read-register-requires
 read-register-requires c κs = search needs
 
-reading-value-requires : tie.Need-reading-value-requires
-reading-value-requires c κs = search needs
+enum-known-reading : tie.Need-enum-known-reading
+enum-known-reading c = search needs
 
-reading-number-requires : tie.Need-reading-number-requires
-reading-number-requires c κs = search needs
+refused-requires : tie.Need-refused-requires
+refused-requires c κs = search needs
 
-returns : tie.Need-returns
-returns c =
-    let k = c .before .before in
-    reads _ (k .before .before .load-fifo .ensures) (k .before .load-registers .ensures) (k .read-register .ensures)
-    (c .reading-number .ensures) (c .before .reading-value .ensures)
+enum-known-reading-2 : tie.Need-enum-known-reading-2
+enum-known-reading-2 c = search needs
+
+cast-value : tie.Need-cast-value
+cast-value c = search needs
+
+returns-2 : tie.Need-returns-2
+returns-2 c = reads-refused _ _ _ (c .before .before .before .before .before .before .before .if1 .left) (c .before .before .before .before .before .before .window .ensures) (c .before .before .before .before .read-register .ensures) _ (c .before .before .reading .given .1) (c .refused .ensures)
+
+returns-3 : tie.Need-returns-3
+returns-3 c = reads-done _ _ _ (c .before .before .before .before .before .before .if1 .left) (c .before .before .before .before .before .window .ensures) (c .before .before .before .read-register .ensures) _ (c .before .reading2 .given .1)
 
 pub duckhammock-read-register-spec : {M : Type 1} → statement M
 duckhammock-read-register-spec =
     tie.close
     (tie.spec
-    load-fifo-requires
-    load-registers-requires
+    element-copy-out-value
+    returns
+    window-requires
+    element-copy-out-read-register
     read-register-requires
-    reading-value-requires
-    reading-number-requires
-    returns)
+    enum-known-reading
+    refused-requires
+    enum-known-reading-2
+    cast-value
+    returns-2
+    returns-3)

@@ -1,20 +1,38 @@
--- `duckhammock::duckhammock_run` meets its contract: it is a run of the state that the words say.
+-- `duckhammock::duckhammock_run` meets its contract: it is a run of the state that the words say; they are stored where units were done.
+use mathlib.Core.Path.{refl, sym, _∙_}
+use Rattle.words.specs.State.{stateAt}
+use Rattle.words.proofs.Fits.{wide-refused}
+use Rattle.duckhammock.proofs.Units.{handed, run-wide, run-none, run-some}
 use borrow.Author.Needs.{needs}
-use Rattle.duckhammock.proofs.Calls.{ends}
 use Rattle.duckhammock.proofs.duckhammock_run.Statement.{statement}
 use Rattle.duckhammock.proofs.duckhammock_run.Tie as tie
 
-load-fifo-requires : tie.Need-load-fifo-requires
-load-fifo-requires c κs = search needs
+read-front-requires : tie.Need-read-front-requires
+read-front-requires c κs = search needs
 
-load-registers-requires : tie.Need-load-registers-requires
-load-registers-requires c κs = search needs
+enum-known-front : tie.Need-enum-known-front
+enum-known-front c = search needs
+
+enum-told : tie.Need-enum-told
+enum-told c = search needs
+
+refused-requires : tie.Need-refused-requires
+refused-requires c κs = search needs
+
+returns : tie.Need-returns
+returns c =
+    let a = c .before .before .before .before .before .before .before .before .before .args in
+    run-wide (a .ring .now) (a .limit) (stateAt (a .state .now) (a .xf .now) (a .vertex .now)) (a .state .now)
+    (wide-refused (a .state .now) (a .xf .now) (a .vertex .now) _ (sym (c .before .before .enum-told .given .1) ∙ c .before .before .before .before .read-front .ensures)) (c .refused .ensures) refl
+
+cp-requires : tie.Need-cp-requires
+cp-requires c κs = search needs
+
+bp-requires : tie.Need-bp-requires
+bp-requires c κs = search needs
 
 run-requires : tie.Need-run-requires
 run-requires c κs = search needs
-
-save-requires : tie.Need-save-requires
-save-requires c κs = search needs
 
 stop-lacking-requires : tie.Need-stop-lacking-requires
 stop-lacking-requires c κs = search needs
@@ -28,24 +46,49 @@ same-length c = search needs
 same-length-2 : tie.Need-same-length-2
 same-length-2 c = search needs
 
-returns : tie.Need-returns
-returns c =
-    let k = c .before .before .before .before .before .before .before .before .before .before in
-    let a = k .before .before .before .before .before .before .before .before .before .before .args in
-    ends _ (k .before .before .before .before .before .load-fifo .ensures) (k .before .before .before .load-registers .ensures)
-    (a .ring .now) (a .xf .now) (a .vertex .now) (a .limit)
-    (k .run .ensures) (c .stop-number .ensures) (c .before .stop-lacking .ensures) (c .before .before .save .ensures)
+returns-2 : tie.Need-returns-2
+returns-2 c =
+    let a = c .before .before .before .before .before .before .before .before .before .before .before .before .before .before .before .before .before .before .before .before .before .before .before .before .args in
+    let s = handed (a .state .now) (a .xf .now) (a .vertex .now) (sym (c .before .before .before .before .before .before .before .before .before .before .before .before .before .before .before .before .before .front .given .1) ∙ c .before .before .before .before .before .before .before .before .before .before .before .before .before .before .before .before .before .before .before .read-front .ensures) (c .before .before .before .before .before .before .before .before .before .before .before .before .before .before .cp .ensures) (c .before .before .before .before .before .before .before .before .before .before .before .before .bp .ensures) in
+    rw (← s) (run-none (a .ring .now) (a .limit) _ (a .state .now) (c .before .before .before .before .before .before .before .run .ensures) (c .stop-number .ensures) (c .before .before .stop-lacking .ensures) refl (c .before .if1 .taken))
+
+save-requires : tie.Need-save-requires
+save-requires c κs = search needs
+
+stop-number-requires-2 : tie.Need-stop-number-requires-2
+stop-number-requires-2 c κs = search needs
+
+same-length-3 : tie.Need-same-length-3
+same-length-3 c = search needs
+
+same-length-4 : tie.Need-same-length-4
+same-length-4 c = search needs
+
+returns-3 : tie.Need-returns-3
+returns-3 c =
+    let a = c .before .before .before .before .before .before .before .before .before .before .before .before .before .before .before .before .before .before .before .before .before .before .before .before .before .before .before .before .before .args in
+    let s = handed (a .state .now) (a .xf .now) (a .vertex .now) (sym (c .before .before .before .before .before .before .before .before .before .before .before .before .before .before .before .before .before .before .before .before .before .before .front .given .1) ∙ c .before .before .before .before .before .before .before .before .before .before .before .before .before .before .before .before .before .before .before .before .before .before .before .before .read-front .ensures) (c .before .before .before .before .before .before .before .before .before .before .before .before .before .before .before .before .before .before .before .cp .ensures) (c .before .before .before .before .before .before .before .before .before .before .before .before .before .before .before .before .before .bp .ensures) in
+    rw (← s) (run-some (a .ring .now) (a .limit) _ (a .state .now) (c .before .before .before .before .before .before .before .before .before .before .before .before .run .ensures) (c .stop-number2 .ensures) (c .before .before .before .before .before .before .before .stop-lacking .ensures) refl (c .before .before .before .before .before .before .if1 .left) (c .before .save .ensures))
 
 pub duckhammock-run-spec : {M : Type 1} → statement M
 duckhammock-run-spec =
     tie.close
     (tie.spec
-    load-fifo-requires
-    load-registers-requires
+    read-front-requires
+    enum-known-front
+    enum-told
+    refused-requires
+    returns
+    cp-requires
+    bp-requires
     run-requires
-    save-requires
     stop-lacking-requires
     stop-number-requires
     same-length
     same-length-2
-    returns)
+    returns-2
+    save-requires
+    stop-number-requires-2
+    same-length-3
+    same-length-4
+    returns-3)

@@ -1,23 +1,44 @@
--- `duckhammock::duckhammock_step` meets its contract: it is a step of the state that the words say.
+-- `duckhammock::duckhammock_step` meets its contract: it is a step of the state that the words say; they are stored where a unit was done.
+use mathlib.Core.Path.{refl, sym, _∙_}
+use Rattle.words.specs.State.{stateAt}
+use Rattle.words.proofs.Fits.{wide-refused}
+use Rattle.duckhammock.proofs.Units.{handed, none, step-wide, step-none, step-done}
 use borrow.Author.Needs.{needs}
-use Rattle.duckhammock.proofs.Calls.{tells}
 use Rattle.duckhammock.proofs.duckhammock_step.Statement.{statement}
 use Rattle.duckhammock.proofs.duckhammock_step.Tie as tie
 
-load-fifo-requires : tie.Need-load-fifo-requires
-load-fifo-requires c κs = search needs
+read-front-requires : tie.Need-read-front-requires
+read-front-requires c κs = search needs
 
-load-registers-requires : tie.Need-load-registers-requires
-load-registers-requires c κs = search needs
+enum-known-front : tie.Need-enum-known-front
+enum-known-front c = search needs
+
+enum-told : tie.Need-enum-told
+enum-told c = search needs
+
+refused-requires : tie.Need-refused-requires
+refused-requires c κs = search needs
+
+returns : tie.Need-returns
+returns c =
+    let a = c .before .before .before .before .before .before .before .before .args in
+    step-wide (a .ring .now) (stateAt (a .state .now) (a .xf .now) (a .vertex .now)) (a .state .now) (a .unit .now)
+    (wide-refused (a .state .now) (a .xf .now) (a .vertex .now) _ (sym (c .before .enum-told .given .1) ∙ c .before .before .before .read-front .ensures)) (c .refused .ensures) refl
+
+cp-requires : tie.Need-cp-requires
+cp-requires c κs = search needs
+
+bp-requires : tie.Need-bp-requires
+bp-requires c κs = search needs
 
 step-requires : tie.Need-step-requires
 step-requires c κs = search needs
 
-save-requires : tie.Need-save-requires
-save-requires c κs = search needs
+step-lacking-requires : tie.Need-step-lacking-requires
+step-lacking-requires c κs = search needs
 
-step-words-requires : tie.Need-step-words-requires
-step-words-requires c κs = search needs
+enum-known-answer : tie.Need-enum-known-answer
+enum-known-answer c = search needs
 
 step-number-requires : tie.Need-step-number-requires
 step-number-requires c κs = search needs
@@ -28,24 +49,50 @@ same-length c = search needs
 same-length-2 : tie.Need-same-length-2
 same-length-2 c = search needs
 
-returns : tie.Need-returns
-returns c =
-    let k = c .before .before .before .before .before .before .before .before .before .before in
-    let a = k .before .before .before .before .before .before .before .before .before .before .args in
-    tells _ (k .before .before .before .before .before .load-fifo .ensures) (k .before .before .before .load-registers .ensures)
-    (a .ring .now) (a .xf .now) (a .vertex .now)
-    (k .step .ensures) (c .step-number .ensures) (c .before .step-words .ensures) (c .before .before .save .ensures)
+returns-2 : tie.Need-returns-2
+returns-2 c =
+    let a = c .before .before .before .before .before .before .before .before .before .before .before .before .before .before .before .before .before .before .before .before .before .before .before .before .args in
+    let s = handed (a .state .now) (a .xf .now) (a .vertex .now) (sym (c .before .before .before .before .before .before .before .before .before .before .before .before .before .before .before .before .before .front .given .1) ∙ c .before .before .before .before .before .before .before .before .before .before .before .before .before .before .before .before .before .before .before .read-front .ensures) (c .before .before .before .before .before .before .before .before .before .before .before .before .before .before .cp .ensures) (c .before .before .before .before .before .before .before .before .before .before .before .before .bp .ensures) in
+    rw (← s) (step-none (a .ring .now) _ (a .state .now) (a .unit .now) (c .before .before .before .before .before .before .before .step .ensures) (none _ (c .before .match2 .keys2)) (c .step-number .ensures) (c .before .before .step-lacking .ensures))
+
+save-requires : tie.Need-save-requires
+save-requires c κs = search needs
+
+unit-words-requires : tie.Need-unit-words-requires
+unit-words-requires c κs = search needs
+
+same-length-3 : tie.Need-same-length-3
+same-length-3 c = search needs
+
+same-length-4 : tie.Need-same-length-4
+same-length-4 c = search needs
+
+returns-3 : tie.Need-returns-3
+returns-3 c =
+    let a = c .before .before .before .before .before .before .before .before .before .before .before .before .before .before .before .before .before .before .before .before .before .before .before .before .before .before .before .before .before .before .before .args in
+    let s = handed (a .state .now) (a .xf .now) (a .vertex .now) (sym (c .before .before .before .before .before .before .before .before .before .before .before .before .before .before .before .before .before .before .before .before .before .before .before .before .front .given .1) ∙ c .before .before .before .before .before .before .before .before .before .before .before .before .before .before .before .before .before .before .before .before .before .before .before .before .before .before .read-front .ensures) (c .before .before .before .before .before .before .before .before .before .before .before .before .before .before .before .before .before .before .before .before .before .cp .ensures) (c .before .before .before .before .before .before .before .before .before .before .before .before .before .before .before .before .before .before .before .bp .ensures) in
+    rw (← s) (step-done (a .ring .now) _ (a .state .now) (a .unit .now) _ _ _ (c .before .before .before .before .before .before .before .before .before .before .before .before .before .before .step .ensures) (c .before .before .before .before .before .before .before .answer .given .1) (c .before .save .ensures) (c .unit-words .ensures) (c .before .before .before .before .before .before .before .before .before .step-lacking .ensures))
 
 pub duckhammock-step-spec : {M : Type 1} → statement M
 duckhammock-step-spec =
     tie.close
     (tie.spec
-    load-fifo-requires
-    load-registers-requires
+    read-front-requires
+    enum-known-front
+    enum-told
+    refused-requires
+    returns
+    cp-requires
+    bp-requires
     step-requires
-    save-requires
-    step-words-requires
+    step-lacking-requires
+    enum-known-answer
     step-number-requires
     same-length
     same-length-2
-    returns)
+    returns-2
+    save-requires
+    unit-words-requires
+    same-length-3
+    same-length-4
+    returns-3)

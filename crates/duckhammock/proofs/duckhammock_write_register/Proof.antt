@@ -1,37 +1,52 @@
--- `duckhammock::duckhammock_write_register` meets its contract: the register is written in what the words say.
+-- `duckhammock::duckhammock_write_register` meets its contract: the control word or the window is stored, where the register is written.
+use Rattle.duckhammock.proofs.Windows.{writes-refused, writes-control, writes-window}
 use borrow.Author.Needs.{needs}
-use Rattle.duckhammock.proofs.Calls.{writes}
 use Rattle.duckhammock.proofs.duckhammock_write_register.Statement.{statement}
 use Rattle.duckhammock.proofs.duckhammock_write_register.Tie as tie
 
-load-fifo-requires : tie.Need-load-fifo-requires
-load-fifo-requires c κs = search needs
-
-load-registers-requires : tie.Need-load-registers-requires
-load-registers-requires c κs = search needs
+window-requires : tie.Need-window-requires
+window-requires c κs = search needs
 
 write-register-requires : tie.Need-write-register-requires
 write-register-requires c κs = search needs
 
-save-requires : tie.Need-save-requires
-save-requires c κs = search needs
+enum-known-answer : tie.Need-enum-known-answer
+enum-known-answer c = search needs
 
-answer-number-requires : tie.Need-answer-number-requires
-answer-number-requires c κs = search needs
+refused-requires : tie.Need-refused-requires
+refused-requires c κs = search needs
 
 returns : tie.Need-returns
-returns c =
-    let k = c .before .before .before .before in
-    writes _ (k .before .before .before .load-fifo .ensures) (k .before .load-registers .ensures) (k .write-register .ensures)
-    (c .answer-number .ensures) (c .before .save .ensures)
+returns c = writes-refused _ _ (c .before .before .before .before .before .before .window .ensures) (c .before .before .before .before .before .write-register .ensures) _ (c .before .before .answer .given .1) (c .refused .ensures)
+
+enum-told : tie.Need-enum-told
+enum-told c = search needs
+
+save-control-requires : tie.Need-save-control-requires
+save-control-requires c κs = search needs
+
+returns-2 : tie.Need-returns-2
+returns-2 c =
+    writes-control _ _ (c .before .before .before .before .before .before .before .window .ensures) (c .before .before .before .before .before .before .write-register .ensures) (c .save-control .ensures) (c .before .before .before .enum-told .given .1) (c .before .before .if1 .taken)
+
+save-window-requires : tie.Need-save-window-requires
+save-window-requires c κs = search needs
+
+returns-3 : tie.Need-returns-3
+returns-3 c =
+    writes-window _ _ (c .before .before .before .before .before .before .before .window .ensures) (c .before .before .before .before .before .before .write-register .ensures) (c .save-window .ensures) (c .before .before .before .enum-told .given .1) (c .before .before .if1 .left)
 
 pub duckhammock-write-register-spec : {M : Type 1} → statement M
 duckhammock-write-register-spec =
     tie.close
     (tie.spec
-    load-fifo-requires
-    load-registers-requires
+    window-requires
     write-register-requires
-    save-requires
-    answer-number-requires
-    returns)
+    enum-known-answer
+    refused-requires
+    returns
+    enum-told
+    save-control-requires
+    returns-2
+    save-window-requires
+    returns-3)

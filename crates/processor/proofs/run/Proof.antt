@@ -26,7 +26,7 @@ take-units-requires c κs =
 
 returns : tie.Need-returns
 returns c =
-    run-refused _ _ _ _ _ _ _ (sym (ap meaningOfGate (c .before .gate .given .1)) ∙ c .before .before .before .pass .ensures)
+    run-refused _ _ _ _ _ _ _ _ _ (sym (ap meaningOfGate (c .before .gate .given .1)) ∙ c .before .before .before .pass .ensures)
 
 same-length : tie.Need-same-length
 same-length c = search needs
@@ -39,7 +39,7 @@ returns-2 c =
     let t = c .before .before .before .before .before in
     let told = t .before .before .before .before .before in
     let p = told .before .before in
-    run-taken _ _ _ _ _ _ (passed _ (sym (ap meaningOfGate (told .enum-told .given .1)) ∙ p .pass .ensures)) (p .before .before .before .capped .ensures) (t .take-units .ensures)
+    run-taken _ _ _ _ _ _ _ _ (passed _ (sym (ap meaningOfGate (told .enum-told .given .1)) ∙ p .pass .ensures)) (p .before .before .before .capped .ensures) (t .take-units .ensures)
 
 pub run-spec : {M : Type 1} → statement M
 run-spec =

@@ -29,7 +29,7 @@ close-requires c κs = search needs
 
 returns : tie.Need-returns
 returns c =
-    steps-refused _ _ _ _ _ _ (sym (ap meaningOfGate (c .before .gate .given .1)) ∙ c .before .before .before .pass .ensures)
+    steps-refused _ _ _ _ _ _ _ _ (sym (ap meaningOfGate (c .before .gate .given .1)) ∙ c .before .before .before .pass .ensures)
 
 same-length : tie.Need-same-length
 same-length c = search needs
@@ -43,8 +43,8 @@ returns-2 c =
     let o = t .before .before .before .before .before in
     let told = o .before in
     let p = told .before .before in
-    let a = p .before .before .before .before .before .before .before .before .args in
-    let s : State = stateOf (a .fifo) (a .registers) (a .xf .now) (a .buffer .now) in
+    let a = p .before .before .before .before .before .before .args in
+    let s : State = stateOf (a .fifo) (a .cp .now) (a .bp .now) (a .draw) (a .xf .now) (a .buffer .now) in
     let g = passed _ (sym (ap meaningOfGate (told .enum-told .given .1)) ∙ p .pass .ensures) in
     let k = gate-passes s _ g in
     steps-taken _ s g (takes-opened _ s (k .ready) (o .open .ensures) (t .take .ensures)) (c .close .ensures)

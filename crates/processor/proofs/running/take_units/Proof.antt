@@ -12,7 +12,7 @@ use Rattle.processor.proofs.Wholes.{takes-most, course-vertices}
 use Rattle.processor.proofs.Follow.{course-loads}
 use Rattle.processor.proofs.Bridge.{takes-opened}
 use Rattle.processor.proofs.StepAnswer as Answers
-use Rattle.processor.specs.Run.{entryOf}
+use Rattle.processor.specs.State.{stateOf}
 use Rattle.processor.specs.State.{State}
 use Rattle.processor.specs.Step.{meaning}
 use Rattle.processor.specs.declared.StepAnswer.the-variants.{Done, Waiting, Refused}
@@ -30,7 +30,7 @@ not-done (Waiting j) h c k n e = let z : _≡_ {A = ℕ} 0 1 = cc in omega arith
 not-done (Refused r) h c k n e = let z : _≡_ {A = ℕ} 0 1 = cc in omega arith
 
 abbrev Inv-loop : tie.InvT-loop
-Inv-loop fifo ring cp₀ bp₀ xf₀ buffer₀ limit cursor₀ draw₀ units₀ cp bp xf buffer cursor draw units = (length xf ≡ length xf₀) × ((length buffer ≡ length buffer₀) × Course ring limit (entryOf fifo cp₀ bp₀ draw₀ xf₀ buffer₀) cursor cp bp draw xf buffer units)
+Inv-loop fifo ring cp₀ bp₀ xf₀ buffer₀ limit cursor₀ draw₀ units₀ cp bp xf buffer cursor draw units = (length xf ≡ length xf₀) × ((length buffer ≡ length buffer₀) × Course ring limit (stateOf fifo cp₀ bp₀ draw₀ xf₀ buffer₀) cursor cp bp draw xf buffer units)
 
 abbrev μ-loop : tie.MeasureT-loop
 μ-loop fifo ring cp₀ bp₀ xf₀ buffer₀ limit cursor₀ draw₀ units₀ cp bp xf buffer cursor draw units = limit - units
@@ -76,7 +76,7 @@ open-requires c κs = search needs
 loop-holds : tie.Need-loop-holds Inv-loop μ-loop
 loop-holds c =
     let a = c .before .before .before .before .args in
-    let s = entryOf (a .fifo) (a .cp .now) (a .bp .now) (a .first) (a .xf .now) (a .buffer .now) in
+    let s = stateOf (a .fifo) (a .cp .now) (a .bp .now) (a .first) (a .xf .now) (a .buffer .now) in
     (refl, (refl, course-begins (a .ring .now) (a .limit) s (c .before .before .before .before .pre) (c .«open» .ensures)))
 
 take-requires : tie.Need-take-requires Inv-loop μ-loop

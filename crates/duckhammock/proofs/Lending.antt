@@ -1,0 +1,135 @@
+-- What the calls on a format, a command and patches promise, from what the functions that they call promise.
+use mathlib.Core.Path.{_≡_, refl, sym, ap, _∙_}
+use mathlib.Core.Bool.{cond}
+use mathlib.Core.Logic.{⊎-elim}
+use mathlib.Core.List.{List, [], _∷_}
+use Prim.Native.Nat.{ℕ}
+use lib.Dec.{eqb}
+use lib.ListN.{length, drop, replicate}
+use borrow.Author.Tests.{eqb-true}
+use Rattle.laws.specs.Values.{upTo}
+use Rattle.laws.proofs.Cases.{tested}
+use Rattle.refusal.specs.Number.{number}
+use Rattle.refusal.specs.declared.Reason.{Reason}
+use Rattle.layout.specs.declared.Descriptor.{Descriptor}
+use Rattle.layout.specs.declared.Layout.{Layout}
+use Rattle.layout.specs.declared.LayoutAnswer.{LayoutAnswer}
+use Rattle.layout.specs.declared.LayoutAnswer.the-variants as laid
+use Rattle.layout.specs.Sizes.{sizeOf, offsetOf}
+use Rattle.layout.specs.Answers.{refusalOf, lengthOf, Laid}
+use Rattle.layout.specs.Answers as layouts
+use Rattle.vertex.specs.declared.Answer.{Answer}
+use Rattle.vertex.specs.declared.Answer.the-variants as decoded
+use Rattle.vertex.specs.declared.Attribute.{Attribute}
+use Rattle.vertex.specs.declared.RawWords.{RawWords}
+use Rattle.vertex.specs.declared.RawAnswer.the-variants as raw
+use Rattle.vertex.specs.Attributes.{singlesOf, wordsOf}
+use Rattle.vertex.specs.Answers.{Decodes, RawIs, told, decodingOf, refusalAt, unless, rawMeaning}
+use Rattle.vertex.specs.Answers as vertices
+use Rattle.writer.specs.declared.Written.{Written}
+use Rattle.writer.specs.declared.Written.the-variants as written
+use Rattle.writer.specs.Write as writer
+use Rattle.patch.specs.declared.Checked.{Checked}
+use Rattle.patch.specs.Patch.{Patch, mergedOf}
+use Rattle.patch.specs.Answers as patches
+use Rattle.patch.specs.Merging.{Merges, mergeRefusal}
+use Rattle.words.specs.Told.{firstOf, secondOf, padded}
+use Rattle.duckhammock.specs.Formats.{LaysOut, Decoded, KeepsBits, Puts, MergesInto, CountsBytes}
+use Rattle.duckhammock.proofs.Refusals.{stays, stays-number, first-is}
+
+-- ---- a layout
+
+module _ {d : Descriptor} {l : Layout} (h : Laid d l) (sizes offsets : List ℕ) (bytes : ℕ) where
+  pub layout-refused : (reason : Reason) {r : ℕ} → l .answer ≡ laid.Refused reason → r ≡ number reason
+      → LaysOut d sizes offsets bytes r sizes offsets bytes
+  layout-refused reason t e =
+      record {
+        answer-is = e ∙ ap (λ (x : LayoutAnswer). firstOf (layouts.meaning x)) (sym t) ∙ ap firstOf (h .answer-is);
+        sizes-are = stays reason e _ sizes;
+        offsets-are = stays reason e _ offsets;
+        length-is = stays-number reason e _ bytes;
+      }
+
+  pub layout-done : l .answer ≡ laid.Accepted → LaysOut d sizes offsets bytes 0 (l .sizes) (l .offsets) (l .length)
+  unfolding lengthOf
+  layout-done t =
+      let z : refusalOf d ≡ 0 = sym (ap (λ (x : LayoutAnswer). firstOf (layouts.meaning x)) (sym t) ∙ ap firstOf (h .answer-is)) in
+      record {
+        answer-is = sym z;
+        sizes-are = h .sizes-is ∙ ap (λ (n : ℕ). cond (eqb n 0) (upTo (sizeOf d) 21) (replicate 21 0)) z;
+        offsets-are = h .offsets-is ∙ ap (λ (n : ℕ). cond (eqb n 0) (upTo (offsetOf d) 21) (replicate 21 0)) z;
+        length-is = h .length-is ∙ ap (λ (n : ℕ). cond (eqb n 0) (offsetOf d 21) 0) z;
+      }
+
+-- ---- an attribute
+
+module _ {d : Descriptor} {k : ℕ} {vertex : List ℕ} {a : Answer} (h : Decodes d k vertex a) (values : List ℕ) where
+  pub decode-refused : (reason : Reason) {r : ℕ} → a ≡ decoded.Refused reason → r ≡ number reason → Decoded d k vertex values r values
+  decode-refused reason t e =
+      record {
+        answer-is = e ∙ ap (λ (x : Answer). firstOf (vertices.meaning x)) (sym t) ∙ ap firstOf (h .meaning-is);
+        values-are = stays reason e _ values;
+      }
+
+  pub decode-done : (is : Attribute) {values' : List ℕ} → a ≡ decoded.Done is → values' ≡ padded 10 (told is)
+      → Decoded d k vertex values 0 values'
+  decode-done is t e =
+      let m = ap vertices.meaning (sym t) ∙ h .meaning-is in
+      record { answer-is = ap firstOf m; values-are = e ∙ ap (λ (x : List ℕ). padded 10 (drop 1 x)) m }
+
+module _ {d : Descriptor} {k : ℕ} {vertex : List ℕ} {w : RawWords} (h : RawIs d k vertex w) (values : List ℕ) where
+  pub raw-refused : (reason : Reason) {r : ℕ} → w .answer ≡ raw.Refused reason → r ≡ number reason → KeepsBits d k vertex values r values
+  raw-refused reason t e =
+      record {
+        answer-is =
+            e ∙ ap firstOf (ap rawMeaning (sym t) ∙ h .answer-is) ∙ first-is (refusalAt d k vertex) (singlesOf d k ∷ []);
+        values-are = stays reason e _ values;
+      }
+
+  pub raw-done : (n : ℕ) {values' : List ℕ} → w .answer ≡ raw.Count n → values' ≡ n ∷ w .words → KeepsBits d k vertex values 0 values'
+  raw-done n t e =
+      let m = ap rawMeaning (sym t) ∙ h .answer-is in
+      let z : 0 ≡ refusalAt d k vertex = ap firstOf m ∙ first-is (refusalAt d k vertex) (singlesOf d k ∷ []) in
+      let s : n ≡ singlesOf d k = ap secondOf (m ∙ ap (λ (x : ℕ). unless x (singlesOf d k ∷ [])) (sym z)) in
+      let l : w .words ≡ wordsOf vertex (offsetOf d k) (singlesOf d k) =
+      h .words-is ∙ ap (λ (x : ℕ). cond (eqb x 0) (wordsOf vertex (offsetOf d k) (singlesOf d k)) (replicate 9 0)) (sym z) in
+      record { answer-is = z; values-are = e ∙ (λ i. s i ∷ l i) }
+
+-- ---- bytes written
+
+pub count-refused : (reason : Reason) {w : Written} (count : ℕ) {r : ℕ} → w ≡ written.Refused reason → r ≡ number reason
+    → CountsBytes w count r count
+count-refused reason count t e =
+    record { answer-is = e ∙ ap (λ (x : Written). firstOf (writer.meaning x)) (sym t); count-is = stays-number reason e _ count }
+
+pub count-done : (n : ℕ) {w : Written} (count : ℕ) → w ≡ written.Bytes n → CountsBytes w count 0 n
+count-done n count t =
+    let m = ap writer.meaning (sym t) in
+    record { answer-is = ap firstOf m; count-is = ap secondOf m }
+
+-- the second number of an answer that is the refusal alone, or 0 and something
+counted : (refusal n count : ℕ) (l : List ℕ) {r : ℕ} → r ≡ refusal → l ≡ cond (eqb refusal 0) (0 ∷ n ∷ []) (refusal ∷ [])
+    → cond (eqb r 0) (secondOf l) count ≡ cond (eqb r 0) n count
+counted refusal n count l {r} e m =
+    ⊎-elim
+    (λ z. rw z (ap secondOf (m ∙ ap (λ (x : ℕ). cond (eqb x 0) (0 ∷ n ∷ []) (x ∷ [])) (sym e ∙ eqb-true r 0 z))))
+    (λ z. rw z)
+    (tested (eqb r 0))
+
+pub puts : (refusal : ℕ) (bytes out out' : List ℕ) (w : Written) {count r count' : ℕ}
+    → writer.meaning w ≡ cond (eqb refusal 0) (0 ∷ length bytes ∷ []) (refusal ∷ [])
+    → out' ≡ cond (eqb refusal 0) (writer.placed bytes out) out → CountsBytes w count r count' → Puts refusal bytes out count r out' count'
+puts refusal bytes out out' w {count} m o c =
+    let a = c .answer-is ∙ ap firstOf m ∙ first-is refusal (length bytes ∷ []) in
+    record {
+      answer-is = a;
+      out-is = o ∙ ap (λ (x : ℕ). cond (eqb x 0) (writer.placed bytes out) out) (sym a);
+      count-is = c .count-is ∙ counted refusal (length bytes) count (writer.meaning w) a m;
+    }
+
+-- ---- patches merged
+
+pub merges : {a b out out' : Patch} {f : Checked} {r : ℕ} → r ≡ patches.meaning f → Merges a b out f out' → MergesInto a b out r out'
+merges {a} {b} {out} e h =
+    let q : _ ≡ mergeRefusal a b out = e ∙ h .answer-is in
+    record { answer-is = q; out-is = h .out-is ∙ ap (λ (x : ℕ). cond (eqb x 0) (mergedOf a b) out) (sym q) }

@@ -1,0 +1,164 @@
+-- What a step and a run promise: the state that the words say is handed on, and its words are stored where a unit was done.
+use mathlib.Core.Path.{_≡_, refl, sym, ap, _∙_, subst}
+use mathlib.Core.Bool.{false, cond}
+use mathlib.Core.Logic.{_⊎_, inl, inr}
+use mathlib.Core.List.{List, [], _∷_}
+use Prim.Native.Nat.{ℕ, zero, suc, min}
+use native.Mathlib.Omega.{arith}
+use lib.Dec.{eqb}
+use lib.ListN.{length}
+use denote.Enum.Declared.{tagOf}
+use borrow.Author.Tests.{eq-eqb, ne-eqb}
+use Rattle.refusal.specs.Number.{number}
+use Rattle.refusal.specs.declared.Reason.the-variants.{InvalidState}
+use Rattle.command.specs.declared.Command.{Command}
+use Rattle.command.specs.declared.Draw.{Draw}
+use Rattle.command.specs.Command.{Found, unit, waiting, refused, numbersOf}
+use Rattle.command.specs.Look.{unlessRefused}
+use Rattle.fifo.specs.declared.Fifo.{Fifo}
+use Rattle.processor.proofs.StepAnswer as Answers
+use Rattle.processor.specs.declared.StepAnswer.{StepAnswer}
+use Rattle.processor.specs.declared.StepAnswer.the-variants.{Done, Waiting, Refused}
+use Rattle.processor.specs.declared.Stepped.{Stepped}
+use Rattle.processor.specs.declared.Ran.{Ran}
+use Rattle.processor.specs.State.{State, stateOf}
+use Rattle.processor.specs.Gate.{gateOf}
+use Rattle.processor.specs.Step.{meaning, after, stepFound, stepOf, Steps}
+use Rattle.processor.specs.Run.{Ended, ended, goneOn, steps, gated, runLimit, runOf, meaningOfStop, Reports}
+use Rattle.words.specs.declared.state.Front.the-variants.{Held, Wide}
+use Rattle.words.specs.State.{fifoOf, drawOf, cpOf, bpOf, stateAt, wordsBy}
+use Rattle.words.specs.Front.{frontOf}
+use Rattle.words.specs.Told.{firstOf, secondOf, stepNumber, lackingOf, unitOf}
+use Rattle.words.proofs.Fits.{held-is, wide-refused}
+use Rattle.duckhammock.specs.Calls.{Lent, lentOf, lentBy, Tells, Ends}
+use Rattle.duckhammock.proofs.Refusals.{not-zero}
+
+-- the state that is handed on is the one that the words say
+pub handed : (l xf vertex : List ℕ) {f : Fifo} {cp bp : List ℕ} {draw : Draw} → Held f draw ≡ frontOf l → cp ≡ cpOf l → bp ≡ bpOf l
+    → stateOf f cp bp draw xf vertex ≡ stateAt l xf vertex
+handed l xf vertex h p q =
+    let k = held-is l h in
+    λ i. stateOf (k .0 i) (p i) (q i) (k .1 i) xf vertex
+
+-- ---- a step
+
+-- an answer that is no unit
+pub isNone : StepAnswer → Type 0
+isNone (Done c m n) = ⊥
+isNone (Waiting k) = Unit {0}
+isNone (Refused r) = Unit {0}
+
+pub none : (a : StepAnswer) → (tagOf Answers.the-type a ≡ 1) ⊎ (tagOf Answers.the-type a ≡ 2) → isNone a
+unfolding isNone
+none (Done d m l) (inl h) = omega arith
+none (Done d m l) (inr h) = omega arith
+none (Waiting k) h = tt
+none (Refused r) h = tt
+
+module _ (ring : List ℕ) (s : State) (words told : List ℕ) where
+  -- words too wide: 1
+  pub step-wide : {r lacking : ℕ} → gateOf s (length ring) ≡ 1 → r ≡ number InvalidState → lacking ≡ 0
+      → Tells ring s (lentOf words (s .xf) (s .buffer)) told r (lentOf words (s .xf) (s .buffer)) told lacking
+  unfolding stepFound
+  step-wide g e k =
+      record {
+        answer-is = rw g e;
+        lacking-is = rw g k;
+        unit-is = rw (not-zero InvalidState e);
+        lent-is = rw (not-zero InvalidState e);
+      }
+
+  -- waiting or a refusal
+  none-number : (a : StepAnswer) → isNone a → {r : ℕ} → r ≡ stepNumber (meaning a) → eqb r 0 ≡ false
+  unfolding isNone
+  none-number (Done c m n) h e = absurd h
+  none-number (Waiting k) h {r} e = ne-eqb r 0 (λ z. omega (arith, e, z))
+  none-number (Refused reason) h e = not-zero reason e
+
+  none-after : (a : StepAnswer) → isNone a → after ring s (meaning a) ≡ s
+  unfolding isNone
+  none-after (Done c m n) h = absurd h
+  none-after (Waiting k) h = refl
+  none-after (Refused reason) h = refl
+
+  pub step-none : {c : Stepped} {cp bp xf vertex : List ℕ} {r lacking : ℕ} → Steps ring s c cp bp xf vertex → isNone (c .answer)
+      → r ≡ stepNumber (meaning (c .answer)) → lacking ≡ lackingOf (meaning (c .answer))
+      → Tells ring s (lentOf words (s .xf) (s .buffer)) told r (lentOf words xf vertex) told lacking
+  unfolding stepOf
+  step-none {c} h n e k =
+      let z = none-number (c .answer) n e in
+      let left : _ ≡ s = h .state-is ∙ ap (after ring s) (sym (h .answer-is)) ∙ none-after (c .answer) n in
+      record {
+        answer-is = e ∙ ap stepNumber (h .answer-is);
+        lacking-is = k ∙ ap lackingOf (h .answer-is);
+        unit-is = rw z;
+        lent-is = rw z (ap (λ (x : State). lentOf words (x .xf) (x .buffer)) left);
+      }
+
+  pub step-done : {c : Stepped} {cp bp xf vertex words' told' : List ℕ} {lacking : ℕ} (command : Command) (memory n : ℕ)
+      → Steps ring s c cp bp xf vertex → c .answer ≡ Done command memory n → words' ≡ wordsBy (c .fifo) cp bp (c .draw)
+      → told' ≡ unitOf (unit (numbersOf command) memory n) → lacking ≡ lackingOf (meaning (c .answer))
+      → Tells ring s (lentOf words (s .xf) (s .buffer)) told 0 (lentOf words' xf vertex) told' lacking
+  step-done {xf = xf} {vertex = vertex} command memory n h t w u k =
+      let found = ap meaning (sym t) ∙ h .answer-is in
+      record {
+        answer-is = ap stepNumber found;
+        lacking-is = k ∙ ap lackingOf (h .answer-is);
+        unit-is = u ∙ ap unitOf found;
+        lent-is = ap (λ (x : List ℕ). lentOf x xf vertex) w ∙ ap lentBy (h .state-is);
+      }
+
+-- ---- a run
+
+-- a run of no unit leaves the state
+none-gone : (found : Found) (s : State) (e : Ended) → length (goneOn found s e .units) ≡ 0 → goneOn found s e .state ≡ s
+none-gone (unit c m n) s e h = absurd (omega (arith, h))
+none-gone (waiting k) s e h = refl
+none-gone (refused r) s e h = refl
+
+none-steps : (ring : List ℕ) (n : ℕ) (s : State) → length (steps ring n s .units) ≡ 0 → steps ring n s .state ≡ s
+unfolding steps
+none-steps ring zero s h = refl
+none-steps ring (suc n) s h = none-gone (stepFound ring s) s (steps ring n (stepOf ring s)) h
+
+none-gated : (r : ℕ) (s : State) (e : Ended) → (length (e .units) ≡ 0 → e .state ≡ s) → length (gated r s e .units) ≡ 0
+    → gated r s e .state ≡ s
+none-gated zero s e h k = h k
+none-gated (suc r) s e h k = refl
+
+none-run : (ring : List ℕ) (limit : ℕ) (s : State) → length (runOf ring limit s .units) ≡ 0 → runOf ring limit s .state ≡ s
+unfolding runOf
+none-run ring limit s h =
+    none-gated (gateOf s (length ring)) s (steps ring (min limit runLimit) s) (none-steps ring (min limit runLimit) s) h
+
+module _ (ring : List ℕ) (limit : ℕ) (s : State) (words : List ℕ) where
+  pub run-wide : {r : ℕ} {report : List ℕ} → gateOf s (length ring) ≡ 1 → r ≡ number InvalidState → report ≡ 0 ∷ 0 ∷ []
+      → Ends (runOf ring limit s) (lentOf words (s .xf) (s .buffer)) r (lentOf words (s .xf) (s .buffer)) report
+  unfolding runOf
+  run-wide g e k = record { answer-is = rw g e; report-is = rw g k; lent-is = rw g }
+
+  module _ {c : Ran} {cp bp xf vertex report : List ℕ} {r lacking : ℕ} (h : Reports (runOf ring limit s) c cp bp xf vertex)
+      (e : r ≡ firstOf (meaningOfStop (c .stop))) (k : lacking ≡ secondOf (meaningOfStop (c .stop)))
+      (p : report ≡ c .units ∷ lacking ∷ []) where
+    told-by : report ≡ length (runOf ring limit s .units) ∷ secondOf (runOf ring limit s .stop) ∷ []
+    told-by = p ∙ (λ i. h .units-are i ∷ (k ∙ ap secondOf (h .stop-is)) i ∷ [])
+
+    pub run-none : c .units ≡ 0 → Ends (runOf ring limit s) (lentOf words (s .xf) (s .buffer)) r (lentOf words xf vertex) report
+    run-none z =
+        let n = sym (h .units-are) ∙ z in
+        let left : _ ≡ s = h .state-is ∙ none-run ring limit s n in
+        record {
+          answer-is = e ∙ ap firstOf (h .stop-is);
+          report-is = told-by;
+          lent-is = rw n (ap (λ (x : State). lentOf words (x .xf) (x .buffer)) left);
+        }
+
+    pub run-some : {words' : List ℕ} → (c .units ≡ 0 → ⊥) → words' ≡ wordsBy (c .fifo) cp bp (c .draw)
+        → Ends (runOf ring limit s) (lentOf words (s .xf) (s .buffer)) r (lentOf words' xf vertex) report
+    run-some z w =
+        let n = ne-eqb (length (runOf ring limit s .units)) 0 (λ x. z (h .units-are ∙ x)) in
+        record {
+          answer-is = e ∙ ap firstOf (h .stop-is);
+          report-is = told-by;
+          lent-is = rw n (ap (λ (x : List ℕ). lentOf x xf vertex) w ∙ ap lentBy (h .state-is));
+        }

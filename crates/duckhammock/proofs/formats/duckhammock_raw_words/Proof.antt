@@ -1,0 +1,45 @@
+-- `duckhammock::formats::duckhammock_raw_words` meets its contract: it reads by the format that the words say.
+use mathlib.Core.Path.{sym}
+use Rattle.duckhammock.proofs.Lending.{raw-refused, raw-done}
+use borrow.Author.Needs.{needs}
+use Rattle.duckhammock.proofs.formats.duckhammock_raw_words.Statement.{statement}
+use Rattle.duckhammock.proofs.formats.duckhammock_raw_words.Tie as tie
+
+descriptor-requires : tie.Need-descriptor-requires
+descriptor-requires c κs = search needs
+
+raw-words-requires : tie.Need-raw-words-requires
+raw-words-requires c κs = search needs
+
+enum-known-answer : tie.Need-enum-known-answer
+enum-known-answer c = search needs
+
+refused-requires : tie.Need-refused-requires
+refused-requires c κs = search needs
+
+enum-known-answer-2 : tie.Need-enum-known-answer-2
+enum-known-answer-2 c = search needs
+
+raw-list-requires : tie.Need-raw-list-requires
+raw-list-requires c κs = search needs
+
+returns : tie.Need-returns
+returns c =
+    rw (sym (c .before .before .before .before .before .before .descriptor .ensures)) (raw-refused (c .before .before .before .before .before .raw-words .ensures) _ _ (c .before .before .answer .given .1) (c .refused .ensures))
+
+returns-2 : tie.Need-returns-2
+returns-2 c =
+    rw (sym (c .before .before .before .before .before .before .descriptor .ensures)) (raw-done (c .before .before .before .before .before .raw-words .ensures) _ _ (c .before .before .answer2 .given .1) (c .raw-list .ensures))
+
+pub duckhammock-raw-words-spec : {M : Type 1} → statement M
+duckhammock-raw-words-spec =
+    tie.close
+    (tie.spec
+    descriptor-requires
+    raw-words-requires
+    enum-known-answer
+    refused-requires
+    enum-known-answer-2
+    raw-list-requires
+    returns
+    returns-2)

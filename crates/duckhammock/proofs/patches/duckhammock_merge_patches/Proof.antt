@@ -1,0 +1,24 @@
+-- `duckhammock::patches::duckhammock_merge_patches` meets its contract: it is the merge, with the number of its answer.
+use Rattle.duckhammock.proofs.Lending.{merges}
+use borrow.Author.Needs.{needs}
+use Rattle.duckhammock.proofs.patches.duckhammock_merge_patches.Statement.{statement}
+use Rattle.duckhammock.proofs.patches.duckhammock_merge_patches.Tie as tie
+
+merge-requires : tie.Need-merge-requires
+merge-requires c κs = search needs
+
+checked-number-requires : tie.Need-checked-number-requires
+checked-number-requires c κs = search needs
+
+same-length : tie.Need-same-length
+same-length c = search needs
+
+same-length-2 : tie.Need-same-length-2
+same-length-2 c = search needs
+
+returns : tie.Need-returns
+returns c = merges (c .checked-number .ensures) (c .before .before .before .before .before .merge .ensures)
+
+pub duckhammock-merge-patches-spec : {M : Type 1} → statement M
+duckhammock-merge-patches-spec =
+    tie.close (tie.spec merge-requires checked-number-requires same-length same-length-2 returns)

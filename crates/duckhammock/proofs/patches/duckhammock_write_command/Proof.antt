@@ -1,0 +1,27 @@
+-- `duckhammock::patches::duckhammock_write_command` meets its contract: it is the command that the words name written, with the number of its answer.
+use mathlib.Core.Path.{sym}
+use Rattle.duckhammock.proofs.Lending.{puts}
+use borrow.Author.Needs.{needs}
+use Rattle.duckhammock.proofs.patches.duckhammock_write_command.Statement.{statement}
+use Rattle.duckhammock.proofs.patches.duckhammock_write_command.Tie as tie
+
+command-requires : tie.Need-command-requires
+command-requires c κs = search needs
+
+write-requires : tie.Need-write-requires
+write-requires c κs = search needs
+
+tell-bytes-requires : tie.Need-tell-bytes-requires
+tell-bytes-requires c κs = search needs
+
+same-length : tie.Need-same-length
+same-length c = search needs
+
+returns : tie.Need-returns
+returns c =
+    let w = c .before .before .before .before .write .ensures in
+    rw (sym (c .before .before .before .before .before .before .command .ensures)) (puts _ _ _ _ _ (w .answer-is) (w .out-is) (c .tell-bytes .ensures))
+
+pub duckhammock-write-command-spec : {M : Type 1} → statement M
+duckhammock-write-command-spec =
+    tie.close (tie.spec command-requires write-requires tell-bytes-requires same-length returns)

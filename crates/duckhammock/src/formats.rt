@@ -1,0 +1,75 @@
+// A vertex format of five words: its layout, and the attributes of a vertex.
+use crate::refused;
+use layout::LayoutAnswer;
+use vertex::Answer;
+use vertex::RawAnswer;
+ghost use Rattle.words.specs.Told.{descriptorOf};
+ghost use Rattle.duckhammock.specs.Formats.{LaysOut, Decoded, KeepsBits};
+
+// The layout of a vertex: each attribute's bytes, the sum of those before it, and the length.
+#[no_mangle]
+pub extern "C" fn duckhammock_lay_out(
+    format: &[u32; 5],
+    sizes: &mut [u8; 21],
+    offsets: &mut [u8; 21],
+    length: &mut u32,
+) -> u32
+    ensures { λ r. ⌜ LaysOut (descriptorOf (now (format .entry))) (now (sizes .entry)) (now (offsets .entry)) (now (length .entry))
+        r (now (sizes .exit)) (now (offsets .exit)) (now (length .exit)) ⌝ }
+{
+    let laid = layout::lay_out(words::descriptor(format));
+    let bytes = laid.sizes;
+    let before = laid.offsets;
+    let answer = laid.answer;
+    if let LayoutAnswer::Refused(reason) = answer {
+        return refused(reason);
+    }
+    *sizes = bytes;
+    *offsets = before;
+    *length = laid.length;
+    0
+}
+
+// One attribute of a vertex: its kind and nine values, zeros where unused.
+#[no_mangle]
+pub extern "C" fn duckhammock_decode(
+    format: &[u32; 5],
+    attribute: u32,
+    vertex: &[u8],
+    values: &mut [u32; 10],
+) -> u32
+    ensures { λ r. ⌜ Decoded (descriptorOf (now (format .entry))) attribute (now (vertex .entry)) (now (values .entry))
+        r (now (values .exit)) ⌝ }
+{
+    let decoded = vertex::decode(words::descriptor(format), attribute as usize, vertex);
+    match decoded {
+        Answer::Refused(reason) => refused(reason),
+        Answer::Done(is) => {
+            *values = words::attribute_words(is);
+            0
+        }
+    }
+}
+
+// The f32 components of an attribute as they stand: how many there are, and nine words, zeros where unused.
+#[no_mangle]
+pub extern "C" fn duckhammock_raw_words(
+    format: &[u32; 5],
+    attribute: u32,
+    vertex: &[u8],
+    values: &mut [u32; 10],
+) -> u32
+    ensures { λ r. ⌜ KeepsBits (descriptorOf (now (format .entry))) attribute (now (vertex .entry)) (now (values .entry))
+        r (now (values .exit)) ⌝ }
+{
+    let raw = vertex::raw_words(words::descriptor(format), attribute as usize, vertex);
+    let answer = raw.answer;
+    let list = raw.words;
+    match answer {
+        RawAnswer::Refused(reason) => refused(reason),
+        RawAnswer::Count(count) => {
+            *values = words::raw_list(count, list);
+            0
+        }
+    }
+}

@@ -1,0 +1,16 @@
+-- For the code's own functions: the fifo and the draw in the code's types, where words 6, 8 and 9 fit them.
+use mathlib.Core.Bool.{Bool, cond, _&&_, _||_}
+use mathlib.Core.List.{List}
+use Prim.Native.Nat.{ℕ, _^_}
+use lib.Dec.{eqb, ltb}
+use lib.ListN.{getD}
+use Rattle.words.specs.declared.state.Front.{Front}
+use Rattle.words.specs.declared.state.Front.the-variants.{Held, Wide}
+use Rattle.words.specs.State.{fifoOf, drawOf}
+
+-- control has 16 bits, and the primitive and format of an open draw have 8
+unfoldable pub fits : List ℕ → Bool
+fits l = ltb (getD l 6 0) (2 ^ 16) && (eqb (getD l 7 0) 0 || (ltb (getD l 8 0) (2 ^ 8) && ltb (getD l 9 0) (2 ^ 8)))
+
+unfoldable pub frontOf : List ℕ → Front
+frontOf l = cond (fits l) (Held (fifoOf l) (drawOf l)) Wide

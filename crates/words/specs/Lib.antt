@@ -1,0 +1,4 @@
+pub mod State
+pub mod Told
+pub mod Named
+pub mod Front

@@ -1,0 +1,194 @@
+// The state as 327 words: read from them, and written to them.
+use command::Draw;
+use fifo::Fifo;
+use fifo::Window;
+ghost use mathlib.Core.Path.{_≡_};
+ghost use Prim.Native.Nat.{_+_, _≤_};
+ghost use lib.ListN.{length, take, drop};
+ghost use Rattle.fifo.specs.Feeding.{put};
+ghost use Rattle.fifo.specs.Window.{withWindow, withWrite, withControl};
+ghost use Rattle.words.specs.State.{windowOf, fifoOf, leftOf, cpOf, bpOf};
+ghost use Rattle.words.specs.State.{windowWords, fifoWords, drawWords, wordsBy, withFifo};
+ghost use Rattle.words.specs.Front.{frontOf};
+
+// Words 0 to 10 in the types of the fifo and the draw, or too wide for them.
+pub enum Front {
+    Held { fifo: Fifo, draw: Draw },
+    Wide,
+}
+
+// Stores values from a place on.
+fn store(out: &mut [u32], at: usize, values: &[u32])
+    requires { ⌜ at + length (now values) ≤ length (now out) ⌝ }
+    ensures { λ _. ⌜ now (out .exit) ≡ put (now (out .entry)) at (now (values .entry)) ⌝ }
+{
+    let mut k: usize = 0;
+    while k < values.len() {
+        out[at + k] = values[k];
+        k += 1;
+    }
+}
+
+// Fills `out` with the words from a place on.
+fn fill(out: &mut [u32], words: &[u32], at: usize)
+    requires { ⌜ at + length (now out) ≤ length (now words) ⌝ }
+    ensures { λ _. ⌜ now (out .exit) ≡ take (length (now (out .entry))) (drop at (now (words .entry))) ⌝ }
+{
+    let end = at + out.len();
+    store(out, 0, &words[at..end]);
+}
+
+// Words 0 to 5.
+pub fn window(words: &[u32; 327]) -> Window
+    ensures { λ r. ⌜ r ≡ windowOf (now (words .entry)) ⌝ }
+{
+    Window {
+        start: words[0],
+        end: words[1],
+        high: words[2],
+        low: words[3],
+        write: words[4],
+        read: words[5],
+    }
+}
+
+// The vertices left in a draw that is open; a flag above 1 or a count above 16 bits reads as none left.
+fn left(flag: u32, count: u32) -> u16
+    ensures { λ r. ⌜ r ≡ leftOf flag count ⌝ }
+{
+    if flag != 1 {
+        return 0;
+    }
+    if 0x10000 <= count {
+        return 0;
+    }
+    count as u16
+}
+
+// Words 0 to 10.
+pub fn read_front(words: &[u32; 327]) -> Front
+    ensures { λ r. ⌜ r ≡ frontOf (now (words .entry)) ⌝ }
+{
+    if 0x10000 <= words[6] {
+        return Front::Wide;
+    }
+    let fifo = Fifo {
+        window: window(words),
+        control: words[6] as u16,
+    };
+    if words[7] == 0 {
+        return Front::Held {
+            fifo,
+            draw: Draw::Closed,
+        };
+    }
+    if 256 <= words[8] {
+        return Front::Wide;
+    }
+    if 256 <= words[9] {
+        return Front::Wide;
+    }
+    let draw = Draw::Open {
+        primitive: words[8] as u8,
+        format: words[9] as u8,
+        left: left(words[7], words[10]),
+    };
+    Front::Held { fifo, draw }
+}
+
+// Words 11 to 70.
+pub fn cp(words: &[u32; 327]) -> [u32; 60]
+    ensures { λ r. ⌜ r ≡ cpOf (now (words .entry)) ⌝ }
+{
+    let mut cp = [0u32; 60];
+    fill(&mut cp, words, 11);
+    cp
+}
+
+// Words 71 to 326.
+pub fn bp(words: &[u32; 327]) -> [u32; 256]
+    ensures { λ r. ⌜ r ≡ bpOf (now (words .entry)) ⌝ }
+{
+    let mut bp = [0u32; 256];
+    fill(&mut bp, words, 71);
+    bp
+}
+
+fn window_words(window: Window) -> [u32; 6]
+    ensures { λ r. ⌜ r ≡ windowWords window ⌝ }
+{
+    [
+        window.start,
+        window.end,
+        window.high,
+        window.low,
+        window.write,
+        window.read,
+    ]
+}
+
+fn fifo_words(fifo: Fifo) -> [u32; 7]
+    ensures { λ r. ⌜ r ≡ fifoWords fifo ⌝ }
+{
+    let window = fifo.window;
+    [
+        window.start,
+        window.end,
+        window.high,
+        window.low,
+        window.write,
+        window.read,
+        fifo.control as u32,
+    ]
+}
+
+// Zeros while no draw is open.
+fn draw_words(draw: Draw) -> [u32; 4]
+    ensures { λ r. ⌜ r ≡ drawWords draw ⌝ }
+{
+    match draw {
+        Draw::Closed => [0, 0, 0, 0],
+        Draw::Open {
+            primitive,
+            format,
+            left,
+        } => [1, primitive as u32, format as u32, left as u32],
+    }
+}
+
+// Writes words 0 to 5.
+pub fn save_window(state: &mut [u32; 327], window: Window)
+    ensures { λ _. ⌜ now (state .exit) ≡ withFifo (now (state .entry)) (withWindow (fifoOf (now (state .entry))) window) ⌝ }
+{
+    let front = window_words(window);
+    store(state, 0, &front);
+}
+
+// Writes the write pointer, word 4.
+pub fn save_write(state: &mut [u32; 327], pointer: u32)
+    ensures { λ _. ⌜ now (state .exit)
+        ≡ withFifo (now (state .entry)) (withWindow (fifoOf (now (state .entry))) (withWrite (windowOf (now (state .entry))) pointer)) ⌝ }
+{
+    let one = [pointer];
+    store(state, 4, &one);
+}
+
+// Writes the control word, word 6.
+pub fn save_control(state: &mut [u32; 327], control: u16)
+    ensures { λ _. ⌜ now (state .exit) ≡ withFifo (now (state .entry)) (withControl (fifoOf (now (state .entry))) control) ⌝ }
+{
+    let one = [control as u32];
+    store(state, 6, &one);
+}
+
+// Writes all words.
+pub fn save(state: &mut [u32; 327], fifo: Fifo, cp: &[u32; 60], bp: &[u32; 256], draw: Draw)
+    ensures { λ _. ⌜ now (state .exit) ≡ wordsBy fifo (now (cp .entry)) (now (bp .entry)) draw ⌝ }
+{
+    let front = fifo_words(fifo);
+    let drawn = draw_words(draw);
+    store(state, 0, &front);
+    store(state, 7, &drawn);
+    store(state, 11, cp);
+    store(state, 71, bp);
+}
