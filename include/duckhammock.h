@@ -7,9 +7,13 @@
  * and a pointer must not be null, also where its length is 0.
  *
  * A function returns 0 where the call was accepted, a unit was done or the
- * limit was reached, DUCKHAMMOCK_WAITING, or the number of a refusal. A refused
- * call or unit changes nothing that the state says; values beside the answer
- * are then zeros.
+ * limit was reached, DUCKHAMMOCK_WAITING, or the number of a refusal. It never
+ * returns otherwise, whatever the state words, lengths and bytes are.
+ *
+ * A refused or waiting call changes nothing: no state word, ring byte, XF word
+ * or vertex byte, and nothing of what was lent for its values. Only a report is
+ * told whatever the answer: a step's bytes lacking, and a run's units and bytes
+ * lacking. An accepted call changes what its comment says and nothing else.
  */
 #ifndef DUCKHAMMOCK_H
 #define DUCKHAMMOCK_H
@@ -25,16 +29,28 @@ extern "C" {
 #define DUCKHAMMOCK_XF_WORDS 4184
 /* The shortest vertex buffer, and the longest vertex. */
 #define DUCKHAMMOCK_VERTEX_BYTES 129
+/* The attributes of a vertex, and the words that give its format: VCD 0 and 1,
+ * VAT 0 to 2. */
 #define DUCKHAMMOCK_ATTRIBUTES 21
+#define DUCKHAMMOCK_FORMAT_WORDS 5
+/* The masks of a patch, and its numbers: one for each BP register. */
+#define DUCKHAMMOCK_PATCH_ENTRIES 256
+/* The longest command, an XF load of 16 words, and the longest patch. */
+#define DUCKHAMMOCK_COMMAND_BYTES 69
+#define DUCKHAMMOCK_PATCH_BYTES 2550
 /* The most units of one run; a higher limit counts as this. */
 #define DUCKHAMMOCK_MOST_UNITS 65535
 
 /*
- * The state's words. A draw is open where word 7 is not 0, and then a call
- * leaves it as 1; the draw's four words are 0 while no draw is open. A word too
- * large for its field counts modulo the field's width, 16 bits for the control
- * word and the vertices left, 8 for the primitive and the format; a call that
- * may change the state leaves it so, also where it is refused.
+ * The state's words. Later versions add words only at the end.
+ *
+ * A word that its field cannot hold is refused by 1 (DUCKHAMMOCK_INVALID_STATE)
+ * by the calls that test the field, step and run: a control word above 3F, a
+ * draw that is open (its word is 1) with a primitive or format above 7, or with
+ * 0 vertices left or more than 65,535, and a word for the open draw that is
+ * neither 0 nor 1. Calls that do not test it leave it as it is. While no draw
+ * is open, words 8 to 10 are not looked at; a step or a run that does a unit
+ * leaves them 0 where no draw is open after it.
  */
 enum duckhammock_state_word {
     DUCKHAMMOCK_START = 0,
@@ -86,15 +102,20 @@ enum duckhammock_answer {
     DUCKHAMMOCK_UNKNOWN_FORMAT = 10,
     /* A feed longer than the room in the ring, its size minus 1 minus count. */
     DUCKHAMMOCK_FEED_TOO_LONG = 11,
-    /* 12 to 16 and 18 are the refusals of patches (correction sheets) and of
-     * the command writer, which no function here gives. */
+    /* The masks or numbers of a patch are not 256. */
     DUCKHAMMOCK_PATCH_LENGTH = 12,
+    /* A patch names register FE or gives it a number. */
     DUCKHAMMOCK_PATCH_OF_MASK_REGISTER = 13,
+    /* A mask above FFFFFF. */
     DUCKHAMMOCK_PATCH_MASK_TOO_WIDE = 14,
+    /* A number with a bit outside its mask. */
     DUCKHAMMOCK_PATCH_NUMBER_OUTSIDE_MASK = 15,
+    /* The output is shorter than what is written. */
     DUCKHAMMOCK_OUTPUT_SHORT = 16,
     /* A hardware offset that is not listed, or not to be read or written. */
     DUCKHAMMOCK_UNKNOWN_OFFSET = 17,
+    /* A command to write that is a vertex, is none, or has a field out of
+     * range. */
     DUCKHAMMOCK_UNWRITABLE_COMMAND = 18,
     /* An attribute number above 20, or a vertex not of the layout's length. */
     DUCKHAMMOCK_NOT_OF_LAYOUT = 19,
@@ -102,73 +123,228 @@ enum duckhammock_answer {
     DUCKHAMMOCK_WAITING = 255
 };
 
+/* Offsets of the 16-bit hardware registers. From DUCKHAMMOCK_OFFSET_START on a
+ * register has two halves: the low one at its offset, the high one two above. */
+enum duckhammock_offset {
+    /* Read only. Bit 2: the pointers are equal; bit 3: no draw is open. */
+    DUCKHAMMOCK_OFFSET_STATUS = 0x000,
+    DUCKHAMMOCK_OFFSET_CONTROL = 0x002,
+    /* Write only; a write changes nothing. */
+    DUCKHAMMOCK_OFFSET_CLEAR = 0x004,
+    DUCKHAMMOCK_OFFSET_START = 0x020,
+    DUCKHAMMOCK_OFFSET_END = 0x024,
+    DUCKHAMMOCK_OFFSET_HIGH_MARK = 0x028,
+    DUCKHAMMOCK_OFFSET_LOW_MARK = 0x02C,
+    /* Read only. */
+    DUCKHAMMOCK_OFFSET_COUNT = 0x030,
+    DUCKHAMMOCK_OFFSET_WRITE_POINTER = 0x034,
+    DUCKHAMMOCK_OFFSET_READ_POINTER = 0x038,
+    /* What is added for a high half. */
+    DUCKHAMMOCK_OFFSET_HIGH_HALF = 0x002
+};
+
+/* Bits of the control and the status register. */
+enum duckhammock_bit {
+    DUCKHAMMOCK_CONTROL_READ_ENABLE = 0x01,
+    DUCKHAMMOCK_CONTROL_LINKED = 0x10,
+    DUCKHAMMOCK_STATUS_EMPTY = 0x04,
+    DUCKHAMMOCK_STATUS_IDLE = 0x08
+};
+
+/*
+ * The kinds of commands, and what their words a, b, c and d are; those not
+ * named are 0 where a unit is told, and not looked at where one is written.
+ */
+enum duckhammock_kind {
+    DUCKHAMMOCK_KIND_NO_OPERATION = 0x00,
+    /* A vertex of the open draw; its bytes are at the front of the vertex
+     * buffer. */
+    DUCKHAMMOCK_KIND_VERTEX = 0x01,
+    /* a address, b number */
+    DUCKHAMMOCK_KIND_LOAD_CP = 0x08,
+    /* a words, b address */
+    DUCKHAMMOCK_KIND_LOAD_XF = 0x10,
+    /* Arrays 12 to 15: a index, b words, c XF address, d memory address (not
+     * looked at where one is written). */
+    DUCKHAMMOCK_KIND_LOAD_INDEXED_12 = 0x20,
+    DUCKHAMMOCK_KIND_LOAD_INDEXED_13 = 0x28,
+    DUCKHAMMOCK_KIND_LOAD_INDEXED_14 = 0x30,
+    DUCKHAMMOCK_KIND_LOAD_INDEXED_15 = 0x38,
+    /* a address, b size */
+    DUCKHAMMOCK_KIND_CALL_LIST = 0x40,
+    DUCKHAMMOCK_KIND_INVALIDATE_CACHE = 0x48,
+    /* a register, b number */
+    DUCKHAMMOCK_KIND_LOAD_BP = 0x61,
+    DUCKHAMMOCK_KIND_METRICS = 0x68,
+    /* a primitive, b format, c vertex count */
+    DUCKHAMMOCK_KIND_DRAW = 0x80
+};
+
+/* The words of a command, and of a unit, which has its bytes as a sixth. */
+enum duckhammock_command_word {
+    DUCKHAMMOCK_COMMAND_KIND = 0,
+    DUCKHAMMOCK_COMMAND_A = 1,
+    DUCKHAMMOCK_COMMAND_B = 2,
+    DUCKHAMMOCK_COMMAND_C = 3,
+    DUCKHAMMOCK_COMMAND_D = 4,
+    DUCKHAMMOCK_COMMAND_WORDS = 5,
+    DUCKHAMMOCK_UNIT_BYTES = 5,
+    DUCKHAMMOCK_UNIT_WORDS = 6
+};
+
+/* The words of a run's report. */
+enum duckhammock_report_word {
+    DUCKHAMMOCK_REPORT_UNITS = 0,
+    DUCKHAMMOCK_REPORT_LACKING = 1,
+    DUCKHAMMOCK_REPORT_WORDS = 2
+};
+
+/* The attributes of a vertex, in their order. */
+enum duckhammock_attribute {
+    DUCKHAMMOCK_POSITION_MATRIX = 0,
+    DUCKHAMMOCK_TEXTURE_MATRIX_0 = 1,
+    DUCKHAMMOCK_TEXTURE_MATRIX_1 = 2,
+    DUCKHAMMOCK_TEXTURE_MATRIX_2 = 3,
+    DUCKHAMMOCK_TEXTURE_MATRIX_3 = 4,
+    DUCKHAMMOCK_TEXTURE_MATRIX_4 = 5,
+    DUCKHAMMOCK_TEXTURE_MATRIX_5 = 6,
+    DUCKHAMMOCK_TEXTURE_MATRIX_6 = 7,
+    DUCKHAMMOCK_TEXTURE_MATRIX_7 = 8,
+    DUCKHAMMOCK_POSITION = 9,
+    DUCKHAMMOCK_NORMAL = 10,
+    DUCKHAMMOCK_COLOUR_0 = 11,
+    DUCKHAMMOCK_COLOUR_1 = 12,
+    DUCKHAMMOCK_TEXTURE_0 = 13,
+    DUCKHAMMOCK_TEXTURE_1 = 14,
+    DUCKHAMMOCK_TEXTURE_2 = 15,
+    DUCKHAMMOCK_TEXTURE_3 = 16,
+    DUCKHAMMOCK_TEXTURE_4 = 17,
+    DUCKHAMMOCK_TEXTURE_5 = 18,
+    DUCKHAMMOCK_TEXTURE_6 = 19,
+    DUCKHAMMOCK_TEXTURE_7 = 20
+};
+
+/* What an attribute decodes to, with its values; floats by their bits. */
+enum duckhammock_value {
+    DUCKHAMMOCK_VALUE_ABSENT = 0,
+    DUCKHAMMOCK_VALUE_MATRIX = 1,
+    DUCKHAMMOCK_VALUE_INDEX = 2,
+    DUCKHAMMOCK_VALUE_THREE_INDICES = 3,
+    DUCKHAMMOCK_VALUE_COLOUR = 4,
+    /* Three floats. */
+    DUCKHAMMOCK_VALUE_POSITION = 5,
+    /* Two floats. */
+    DUCKHAMMOCK_VALUE_TEXTURE = 6,
+    /* Three floats. */
+    DUCKHAMMOCK_VALUE_NORMAL = 7,
+    /* Nine floats. */
+    DUCKHAMMOCK_VALUE_NORMAL_OF_NINE = 8,
+    /* The kind and nine values. */
+    DUCKHAMMOCK_VALUE_WORDS = 10
+};
+
 /* The fresh state. */
 void duckhammock_fresh(uint32_t state[DUCKHAMMOCK_STATE_WORDS]);
 
-/* Reads a 16-bit hardware register; the value is 0 where it is refused. */
+/* Reads a 16-bit hardware register. The control register is read as its state
+ * word holds it, also where that is wider. */
 uint32_t duckhammock_read_register(const uint32_t state[DUCKHAMMOCK_STATE_WORDS],
                                    uint16_t offset, uint32_t *value);
 
-/* Writes a 16-bit hardware register. */
+/* Writes a 16-bit hardware register: one state word of 0 to 6 changes. */
 uint32_t duckhammock_write_register(uint32_t state[DUCKHAMMOCK_STATE_WORDS],
                                     uint16_t offset, uint16_t value);
 
-/* Feeds bytes to the ring at the write pointer. */
+/* Feeds bytes to the ring at the write pointer: the fed places and the write
+ * pointer's state word change. */
 uint32_t duckhammock_feed(uint32_t state[DUCKHAMMOCK_STATE_WORDS],
                           uint8_t *ring, size_t ring_len,
                           const uint8_t *bytes, size_t bytes_len);
 
 /*
- * Takes one unit. Its answer, where a unit was done: the kind, four fields and
- * the unit's bytes; for waiting: the bytes lacking, then zeros; else zeros.
- *
- *   kind (hex)         fields
- *   00, 48, 68
- *   01 vertex          (its bytes are at the front of the vertex buffer)
- *   08 CP load         address, number
- *   10 XF load         words, address
- *   20, 28, 30, 38     index, words, XF address, memory address
- *   40 list call       address, size
- *   61 BP load         register, number
- *   80 draw            primitive, format, count
+ * Takes one unit. Where it was done, the state words are those of the state
+ * after it, and unit tells the command's five words and the unit's bytes. The
+ * bytes lacking are told whatever the answer, 0 unless it is waiting.
  */
 uint32_t duckhammock_step(uint32_t state[DUCKHAMMOCK_STATE_WORDS],
                           const uint8_t *ring, size_t ring_len,
                           uint32_t *xf, size_t xf_len,
                           uint8_t *vertex, size_t vertex_len,
-                          uint32_t answer[6]);
+                          uint32_t unit[DUCKHAMMOCK_UNIT_WORDS],
+                          uint32_t *lacking);
 
 /*
- * Takes units until the limit, waiting or a refusal. Its answer: the units
- * done, and the bytes lacking, 0 unless it waits.
+ * Takes units until the limit, waiting or a refusal. The report, told whatever
+ * the answer: the units done, and the bytes lacking, 0 unless it waits. Where
+ * units were done, the state words are those of the state after them.
  */
 uint32_t duckhammock_run(uint32_t state[DUCKHAMMOCK_STATE_WORDS],
                          const uint8_t *ring, size_t ring_len,
                          uint32_t *xf, size_t xf_len,
                          uint8_t *vertex, size_t vertex_len,
-                         uint32_t limit, uint32_t answer[2]);
+                         uint32_t limit,
+                         uint32_t report[DUCKHAMMOCK_REPORT_WORDS]);
 
 /*
- * The layout of a vertex, from VCD 0 and 1 and VAT 0 to 2: the bytes of each
- * attribute, 0 where it is absent, the sum of those before it, and the length
- * of the vertex; zeros where it is refused.
+ * The layout of a vertex: the bytes of each attribute, 0 where it is absent,
+ * the sum of those before it, and the length of the vertex.
  */
-uint32_t duckhammock_lay_out(const uint32_t words[5],
+uint32_t duckhammock_lay_out(const uint32_t format[DUCKHAMMOCK_FORMAT_WORDS],
                              uint8_t sizes[DUCKHAMMOCK_ATTRIBUTES],
                              uint8_t offsets[DUCKHAMMOCK_ATTRIBUTES],
                              uint32_t *length);
 
 /*
- * Decodes one attribute of a vertex of the layout's length. Its answer: the
- * kind and nine values, 0 where unused or refused. A float is told by its bits,
- * every NaN as 7FC00000 (hex).
- *
- *   0 absent   1 matrix number   2 index   3 three indices   4 raw colour
- *   5 position   6 texture   7 normal of three   8 normal of nine
+ * Decodes one attribute of a vertex of the layout's length: the kind (enum
+ * duckhammock_value) and nine values, 0 where unused. A float is told by its
+ * bits, every NaN as 7FC00000 (hex): duckhammock_raw_words keeps a NaN's
+ * pattern.
  */
-uint32_t duckhammock_decode(const uint32_t words[5], uint32_t attribute,
+uint32_t duckhammock_decode(const uint32_t format[DUCKHAMMOCK_FORMAT_WORDS],
+                            uint32_t attribute,
                             const uint8_t *vertex, size_t vertex_len,
-                            uint32_t answer[10]);
+                            uint32_t values[DUCKHAMMOCK_VALUE_WORDS]);
+
+/*
+ * The f32 components of one attribute as their bits stand in the vertex, a
+ * NaN's too: how many there are, 0 where the attribute has none, then nine
+ * words, 0 where unused.
+ */
+uint32_t duckhammock_raw_words(const uint32_t format[DUCKHAMMOCK_FORMAT_WORDS],
+                               uint32_t attribute,
+                               const uint8_t *vertex, size_t vertex_len,
+                               uint32_t values[DUCKHAMMOCK_VALUE_WORDS]);
+
+/*
+ * Writes one command to the front of the output and tells its bytes. An XF
+ * load's words are lent beside it, as many as it names; for other commands they
+ * are not looked at.
+ */
+uint32_t duckhammock_write_command(const uint32_t command[DUCKHAMMOCK_COMMAND_WORDS],
+                                   const uint32_t *words, size_t words_len,
+                                   uint8_t *output, size_t output_len,
+                                   uint32_t *written);
+
+/* Whether a patch (a correction sheet) is accepted: 12, then by register
+ * ascending 13, 14, 15. */
+uint32_t duckhammock_check_patch(const uint32_t *masks, size_t masks_len,
+                                 const uint32_t *numbers, size_t numbers_len);
+
+/* Merges patch b into patch a, into the last two; where both name a bit, it is
+ * b's. */
+uint32_t duckhammock_merge_patches(const uint32_t *a_masks, size_t a_masks_len,
+                                   const uint32_t *a_numbers, size_t a_numbers_len,
+                                   const uint32_t *b_masks, size_t b_masks_len,
+                                   const uint32_t *b_numbers, size_t b_numbers_len,
+                                   uint32_t *masks, size_t masks_len,
+                                   uint32_t *numbers, size_t numbers_len);
+
+/* Writes a patch as commands to the front of the output and tells its bytes:
+ * for each mask that is not 0 a load of register FE and one of the register. */
+uint32_t duckhammock_write_patch(const uint32_t *masks, size_t masks_len,
+                                 const uint32_t *numbers, size_t numbers_len,
+                                 uint8_t *output, size_t output_len,
+                                 uint32_t *written);
 
 #ifdef __cplusplus
 }
