@@ -149,6 +149,12 @@ fn first(these: &[Part], those: &[Part]) -> Option<(String, [String; 2])> {
     None
 }
 
+/// What both sides changed alike, from a value that should have stayed.
+fn both_changed((place, [before, after]): (String, [String; 2])) -> (String, [String; 2]) {
+    let what = format!("nothing, but both changed {place} from {before}");
+    (what, [after.clone(), after])
+}
+
 /// A list in hex: whole where it is short, else its places that are not 0.
 fn list(words: &[u32]) -> String {
     const MOST: usize = 400;
@@ -190,22 +196,20 @@ impl Made<'_> {
     fn breaks_the_header(&self) -> Option<(String, [String; 2])> {
         let answer = self.answers[0];
         if !self.call.kind().answers().contains(&answer) {
-            return Some((
-                "answer of both".into(),
-                [answer, answer].map(|a| a.to_string()),
-            ));
+            let what = "nothing, but the call cannot give this answer".to_string();
+            return Some((what, [answer, answer].map(|a| a.to_string())));
         }
         let expected = self.rightful_call();
         if self.calls[0] != expected {
-            let found = first(&call_parts(&self.calls[0]), &call_parts(&expected));
-            return found.map(|(what, values)| (format!("both changed {what}"), values));
+            let found = first(&call_parts(&expected), &call_parts(&self.calls[0]));
+            return found.map(both_changed);
         }
-        self.changed_part().map(|part| {
-            (
-                format!("both changed the {part}"),
-                [const { String::new() }; 2],
-            )
-        })
+        let part = self.changed_part()?;
+        let of = |world| -> Vec<Part> {
+            let parts = world_parts(world).into_iter();
+            parts.filter(|(name, _)| *name == part).collect()
+        };
+        first(&of(self.before), &of(&self.worlds[0])).map(both_changed)
     }
 
     /// The call as it may be after its answer: a refused or waiting one as it

@@ -1,5 +1,5 @@
-//! Every row of the tables once: CP addresses, arrays, textures, colours, and a
-//! merge of patches that name the same bits.
+//! Every row of the tables once: CP addresses, units, arrays, attributes,
+//! textures, colours, and a merge of patches that name the same bits.
 
 use crate::call::Patch;
 use crate::duo::Duo;
@@ -9,7 +9,9 @@ use crate::world::word;
 pub fn every_table_row(duo: &mut Duo) {
     duo.scenario("every row of the tables");
     cp_addresses(duo);
+    units(duo);
     arrays(duo);
+    attributes(duo);
     textures(duo);
     colours(duo);
     let a = Patch::of(&[(0x41, 0x00_FFFF, 0x00_5A5A)]);
@@ -31,6 +33,34 @@ fn cp_addresses(duo: &mut Duo) {
         duo.step();
         duo.feed(&[0xFF; 4]);
         duo.step();
+    }
+}
+
+/// Units that no other part of the fixed calls has.
+fn units(duo: &mut Duo) {
+    good_bench(duo);
+    duo.feed(&[0x40, 1, 2, 3, 4, 5, 6, 7, 8, 0x00, 0x48, 0x68, 0x80, 0, 1]);
+    duo.feed(&[9, 9]);
+    for _ in 0..6 {
+        duo.step();
+    }
+}
+
+/// Each kind of attribute: a matrix, floats, a colour, indices of both widths,
+/// a normal of nine.
+fn attributes(duo: &mut Duo) {
+    let vertex: Vec<u8> = (0x70..0x70 + 38).collect();
+    for (format, length) in [
+        ([0x2A01, 0x09, 0x4621_4C09, 0, 0], 26),
+        ([0xA00, 0, 0x1200, 0, 0], 38),
+        ([0x1A00, 0, 0x8000_0200, 0, 0], 8),
+        ([0x1200, 0, 0x8000_0200, 0, 0], 5),
+    ] {
+        duo.lay_out(&format);
+        for attribute in 0..21 {
+            duo.decode(&format, attribute, &vertex[..length]);
+            duo.raw_words(&format, attribute, &vertex[..length]);
+        }
     }
 }
 
