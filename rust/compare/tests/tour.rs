@@ -6,7 +6,7 @@
 use compare::call::Patch;
 use compare::duo::Duo;
 use compare::side::{Proved, Twin};
-use compare::world::{word, USUAL};
+use compare::world::{word, Lent, USUAL};
 use model::words::{CommandWords, FormatWords, UnitWords, DONE, WAITING};
 
 /// Both sides, held to what is expected.
@@ -189,6 +189,7 @@ fn every_call_is_answered_as_the_papers_say() {
     stream(&mut tour);
     whole_rings(&mut tour);
     draw(&mut tour);
+    most_units(&mut tour);
     indexed_loads(&mut tour);
     refused_units(&mut tour);
     refused_benches(&mut tour);
@@ -332,6 +333,22 @@ fn whole_rings(tour: &mut Tour) {
     tour.feeds(&[0x48; 3], DONE);
     // A limit above 65,535 counts as that.
     tour.runs(0x1_0000, WAITING, [3, 1]);
+}
+
+/// "a limit of units (0 to 65,535)"; more counts as 65,535.
+fn most_units(tour: &mut Tour) {
+    for limit in [65_535, 65_536, u32::MAX] {
+        bench(tour);
+        tour.0.hold(Lent {
+            ring: 65_536,
+            ..USUAL
+        });
+        tour.0.poke(word::END, 0x1_1000);
+        tour.feeds(&[0x48; 65_536], 11);
+        tour.feeds(&[0x48; 65_535], DONE);
+        tour.runs(limit, DONE, [65_535, 0]);
+        tour.runs(limit, WAITING, [0, 1]);
+    }
 }
 
 fn draw(tour: &mut Tour) {

@@ -4,12 +4,13 @@
 use crate::call::Patch;
 use crate::duo::Duo;
 use crate::scenarios::refusals::good_bench;
-use crate::world::word;
+use crate::world::{word, Lent, USUAL};
 
 pub fn every_table_row(duo: &mut Duo) {
     duo.scenario("every row of the tables");
     cp_addresses(duo);
     units(duo);
+    limits(duo);
     arrays(duo);
     attributes(duo);
     textures(duo);
@@ -43,6 +44,21 @@ fn units(duo: &mut Duo) {
     duo.feed(&[9, 9]);
     for _ in 0..6 {
         duo.step();
+    }
+}
+
+/// A full ring of the largest size: as many units as a run can do.
+fn limits(duo: &mut Duo) {
+    for limit in [65_534, 65_535, 65_536, u32::MAX] {
+        good_bench(duo);
+        duo.hold(Lent {
+            ring: 65_536,
+            ..USUAL
+        });
+        duo.poke(word::END, 0x1_1000);
+        duo.feed(&[0x48; 65_535]);
+        duo.run(limit);
+        duo.run(limit);
     }
 }
 
