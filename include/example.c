@@ -1,96 +1,149 @@
 /*
- * Sets a window of 256 bytes, feeds a few commands and steps through them.
+ * Sets a window, feeds a few commands, steps through them and decodes a position;
+ * then checks, merges and writes two patches of one BP register, feeds them, runs
+ * and reads the register back. Ends with 0 only where all was as expected.
  */
 #include "duckhammock.h"
 
 #include <inttypes.h>
+#include <stdbool.h>
 #include <stdio.h>
+#include <stdlib.h>
 
-#define RING_START 0x1000u
-#define RING_BYTES 256
+enum { RING_START = 0x1000, RING_BYTES = 256, HALF_BITS = 16, NO_WORDS = 0, FIRST = 0 };
+/* A draw of one vertex: a direct position of three unsigned bytes. */
+enum { CP_VCD_0 = 0x50, CP_VAT_0 = 0x70, DIRECT_POSITION = 0x200, THREE_BYTES = 0x1 };
+enum { TRIANGLES = 2, FORMAT = 0, VERTICES = 1, X = 1, Y = 2, Z = 3, AXES = 3 };
+enum { ONE = 0x3F800000, TWO = 0x40000000, THREE = 0x40400000 }; /* f32 by their bits */
+enum { VALUE_KIND, VALUE_X, VALUE_Y, VALUE_Z };
+/* Elin's four bits of a register, and a colleague's four. */
+enum { REGISTER = 0x41, MASK_REGISTER = 0xFE, EVERY_BIT = 0xFFFFFF };
+enum { ELINS_MASK = 0x0F, ELINS_NUMBER = 0x05, THEIR_MASK = 0xF0, THEIR_NUMBER = 0x30 };
+enum { MERGED_MASK = 0xFF, MERGED_NUMBER = 0x35, BEFORE = 0x123456, AFTER = 0x123435 };
+/* The commands and the vertex; the loads of two patches; those of BEFORE and of one. */
+enum { COMMAND_UNITS = 5, TWO_PATCHES_UNITS = 4, MERGED_UNITS = 3 };
 
-static uint32_t state[DUCKHAMMOCK_STATE_WORDS];
-static uint8_t ring[RING_BYTES];
-static uint32_t xf[DUCKHAMMOCK_XF_WORDS];
-static uint8_t vertex[DUCKHAMMOCK_VERTEX_BYTES];
+typedef struct {
+    uint32_t masks[DUCKHAMMOCK_PATCH_ENTRIES], numbers[DUCKHAMMOCK_PATCH_ENTRIES];
+} patch;
 
-static const uint8_t commands[] = {
-    0x61, 0x41, 0x00, 0x00, 0x05,       /* BP register 41 gets 5 */
-    0x08, 0x50, 0x00, 0x00, 0x02, 0x00, /* VCD 0: a direct position */
-    0x08, 0x70, 0x00, 0x00, 0x00, 0x09, /* VAT 0 of format 0: three f32 */
-    0x90, 0x00, 0x01,                   /* a draw of one vertex */
-    0x3F, 0x80, 0x00, 0x00,             /* x = 1 */
-    0x40, 0x00, 0x00, 0x00,             /* y = 2 */
-    0x40, 0x40, 0x00, 0x00              /* z = 3 */
+static const uint32_t commands[][DUCKHAMMOCK_COMMAND_WORDS] = {
+    { DUCKHAMMOCK_KIND_LOAD_BP, REGISTER, BEFORE },
+    { DUCKHAMMOCK_KIND_LOAD_CP, CP_VCD_0, DIRECT_POSITION },
+    { DUCKHAMMOCK_KIND_LOAD_CP, CP_VAT_0, THREE_BYTES },
+    { DUCKHAMMOCK_KIND_DRAW, TRIANGLES, FORMAT, VERTICES }
 };
+static const uint8_t bytes_of_vertex[AXES] = { X, Y, Z };
+static const patch elins = { { [REGISTER] = ELINS_MASK }, { [REGISTER] = ELINS_NUMBER } };
+static const patch theirs = { { [REGISTER] = THEIR_MASK }, { [REGISTER] = THEIR_NUMBER } };
+
+static uint32_t state[DUCKHAMMOCK_STATE_WORDS], xf[DUCKHAMMOCK_XF_WORDS], written, units;
+static uint8_t ring[RING_BYTES], vertex[DUCKHAMMOCK_VERTEX_BYTES], output[DUCKHAMMOCK_PATCH_BYTES];
+static patch merged;
+static bool wrong;
+#define LENT ring, sizeof ring, xf, DUCKHAMMOCK_XF_WORDS, vertex, sizeof vertex
+#define WHOLE(p) (p).masks, DUCKHAMMOCK_PATCH_ENTRIES, (p).numbers, DUCKHAMMOCK_PATCH_ENTRIES
+
+/* Silent where it is as expected. */
+static void expect(const char *what, uint32_t found, uint32_t expected)
+{
+    if (found != expected) {
+        printf("%s: %" PRIX32 " and not %" PRIX32 "\n", what, found, expected);
+        wrong = true;
+    }
+}
+
+static void done(const char *what, uint32_t answer) { expect(what, answer, DUCKHAMMOCK_DONE); }
 
 /* Both halves of a window register. */
-static uint32_t write_word(uint16_t offset, uint32_t word)
+static void write_word(uint16_t offset, uint32_t word)
 {
-    uint32_t low = duckhammock_write_register(state, offset, (uint16_t)word);
-    uint32_t high = duckhammock_write_register(state, (uint16_t)(offset + 2),
-                                               (uint16_t)(word >> 16));
-    return low != 0 ? low : high;
+    uint16_t high = (uint16_t)(offset + DUCKHAMMOCK_OFFSET_HIGH_HALF);
+    done("low half", duckhammock_write_register(state, offset, (uint16_t)word));
+    done("high half", duckhammock_write_register(state, high, (uint16_t)(word >> HALF_BITS)));
 }
 
-/* A fresh state, an empty ring, reading enabled. */
-static uint32_t open_window(void)
+static void feed(const char *what, const uint8_t *bytes, size_t length)
 {
-    uint32_t refused = 0;
-    duckhammock_fresh(state);
-    refused |= write_word(0x020, RING_START);
-    refused |= write_word(0x024, RING_START + RING_BYTES);
-    refused |= write_word(0x034, RING_START);
-    refused |= write_word(0x038, RING_START);
-    refused |= duckhammock_write_register(state, 0x002, 1);
-    return refused;
+    done("feed", duckhammock_feed(state, ring, sizeof ring, bytes, length));
+    printf("fed %s, %u bytes\n", what, (unsigned)length);
 }
 
-/* One step; tells what it was. */
-static uint32_t step(void)
+static void feed_command(const uint32_t *words)
 {
-    uint32_t answer[6];
-    uint32_t number = duckhammock_step(state, ring, sizeof ring, xf,
-                                       DUCKHAMMOCK_XF_WORDS, vertex,
-                                       sizeof vertex, answer);
-    if (number == DUCKHAMMOCK_DONE) {
-        printf("kind %02" PRIX32 ": %" PRIX32 " %" PRIX32 " %" PRIX32 " %" PRIX32
-               ", %" PRIu32 " bytes\n",
-               answer[0], answer[1], answer[2], answer[3], answer[4], answer[5]);
-    } else if (number == DUCKHAMMOCK_WAITING) {
-        printf("waiting for %" PRIu32 " more\n", answer[0]);
-    } else {
-        printf("refused: %" PRIu32 "\n", number);
+    done("write", duckhammock_write_command(words, xf, NO_WORDS, output, sizeof output, &written));
+    feed("a command", output, written);
+}
+
+static void feed_patch(const char *what, const patch *p)
+{
+    done("write", duckhammock_write_patch(WHOLE(*p), output, sizeof output, &written));
+    feed(what, output, written);
+}
+
+static void step_through(void)
+{
+    uint32_t unit[DUCKHAMMOCK_UNIT_WORDS], lacking, answer;
+    while ((answer = duckhammock_step(state, LENT, unit, &lacking)) == DUCKHAMMOCK_DONE) {
+        printf("step: kind %02" PRIX32 ", %" PRIX32 " %" PRIX32 ", %" PRIu32 " bytes\n",
+               unit[DUCKHAMMOCK_COMMAND_KIND], unit[DUCKHAMMOCK_COMMAND_A],
+               unit[DUCKHAMMOCK_COMMAND_B], unit[DUCKHAMMOCK_UNIT_BYTES]);
+        units++;
     }
-    return number;
+    expect("last step", answer, DUCKHAMMOCK_WAITING);
+    expect("units", units, COMMAND_UNITS);
 }
 
-/* The position of the vertex that was taken last, by its bits. */
-static void tell_position(void)
+/* VCD 0 and 1 and format 0's VAT stand in the state one after the other. */
+static void decode_position(void)
 {
-    const uint32_t *vat = state + DUCKHAMMOCK_VAT;
-    uint32_t words[5] = { state[DUCKHAMMOCK_VCD_0], state[DUCKHAMMOCK_VCD_1],
-                          vat[0], vat[1], vat[2] };
-    uint32_t answer[10];
-    if (duckhammock_decode(words, 9, vertex, 12, answer) == DUCKHAMMOCK_DONE) {
-        printf("position: %08" PRIX32 " %08" PRIX32 " %08" PRIX32 "\n",
-               answer[1], answer[2], answer[3]);
-    }
+    uint32_t values[DUCKHAMMOCK_VALUE_WORDS];
+    done("decode", duckhammock_decode(state + DUCKHAMMOCK_VCD_0, DUCKHAMMOCK_POSITION, vertex,
+                                      sizeof bytes_of_vertex, values));
+    expect("kind", values[VALUE_KIND], DUCKHAMMOCK_VALUE_POSITION);
+    expect("x", values[VALUE_X], ONE);
+    expect("y", values[VALUE_Y], TWO);
+    expect("z", values[VALUE_Z], THREE);
+    printf("position: %08" PRIX32 " %08" PRIX32 " %08" PRIX32 "\n", values[VALUE_X],
+           values[VALUE_Y], values[VALUE_Z]);
+}
+
+/* Runs all that was fed; the register must then hold what the patches say. */
+static void run(uint32_t expected)
+{
+    uint32_t report[DUCKHAMMOCK_REPORT_WORDS];
+    uint32_t answer = duckhammock_run(state, LENT, DUCKHAMMOCK_MOST_UNITS, report);
+    expect("run", answer, DUCKHAMMOCK_WAITING);
+    expect("units", report[DUCKHAMMOCK_REPORT_UNITS], expected);
+    printf("run: register %X holds %06" PRIX32 "\n", REGISTER, state[DUCKHAMMOCK_BP + REGISTER]);
+    expect("register", state[DUCKHAMMOCK_BP + REGISTER], AFTER);
+    expect("mask register", state[DUCKHAMMOCK_BP + MASK_REGISTER], EVERY_BIT);
 }
 
 int main(void)
 {
-    uint32_t number;
-    if (open_window() != 0) {
-        printf("the window was refused\n");
-        return 1;
-    }
-    number = duckhammock_feed(state, ring, sizeof ring, commands, sizeof commands);
-    printf("fed %u bytes: %" PRIu32 "\n", (unsigned)sizeof commands, number);
-    while (number == DUCKHAMMOCK_DONE) {
-        number = step();
-    }
-    printf("BP register 41: %06" PRIX32 "\n", state[DUCKHAMMOCK_BP + 0x41]);
-    tell_position();
-    return number == DUCKHAMMOCK_WAITING ? 0 : 1;
+    duckhammock_fresh(state);
+    write_word(DUCKHAMMOCK_OFFSET_START, RING_START);
+    write_word(DUCKHAMMOCK_OFFSET_END, RING_START + RING_BYTES);
+    write_word(DUCKHAMMOCK_OFFSET_WRITE_POINTER, RING_START);
+    write_word(DUCKHAMMOCK_OFFSET_READ_POINTER, RING_START);
+    done("control", duckhammock_write_register(state, DUCKHAMMOCK_OFFSET_CONTROL,
+                                               DUCKHAMMOCK_CONTROL_READ_ENABLE));
+    for (size_t at = FIRST; at < sizeof commands / sizeof *commands; at++)
+        feed_command(commands[at]);
+    feed("a vertex", bytes_of_vertex, sizeof bytes_of_vertex);
+    step_through();
+    decode_position();
+    done("check", duckhammock_check_patch(WHOLE(elins)));
+    done("check", duckhammock_check_patch(WHOLE(theirs)));
+    done("merge", duckhammock_merge_patches(WHOLE(elins), WHOLE(theirs), WHOLE(merged)));
+    expect("merged mask", merged.masks[REGISTER], MERGED_MASK);
+    expect("merged number", merged.numbers[REGISTER], MERGED_NUMBER);
+    feed_patch("Elin's patch", &elins);
+    feed_patch("a colleague's patch", &theirs);
+    run(TWO_PATCHES_UNITS);
+    feed_command(commands[FIRST]);
+    feed_patch("both merged", &merged);
+    run(MERGED_UNITS);
+    return wrong ? EXIT_FAILURE : EXIT_SUCCESS;
 }

@@ -1,12 +1,10 @@
 //! The two implementations behind one trait, each with the memory it is lent.
 
-use crate::proved::{self, StateWords, STATE_WORDS};
-use model::{Answer, Command, End, Memory, Refusal, State, XF_WORDS};
+use model::words::{command_words, state_words, StateWords, UnitWords, STATE_WORDS, WAITING};
+use model::{Answer, End, Memory, Refusal, State, XF_WORDS};
 
 pub const RING: usize = 65_536;
 const VERTEX: usize = 129;
-/// The answer number of waiting.
-pub const WAITING: u32 = 255;
 
 /// Ring, XF words and vertex buffer. Aligned, so that neither implementation
 /// has the luckier places.
@@ -39,9 +37,9 @@ pub trait Machine {
     fn write_register(&mut self, offset: u16, value: u16) -> u32;
     fn feed(&mut self, bytes: &[u8]) -> u32;
     fn step(&mut self) -> Self::Step;
-    /// The answer number and the library's six numbers, for a step that took
-    /// so many bytes off the ring.
-    fn step_words(step: &Self::Step, bytes: u32) -> [u32; 7];
+    /// The answer number, the unit's six words and the bytes lacking, for a
+    /// step that took so many bytes off the ring.
+    fn step_words(step: &Self::Step, bytes: u32) -> [u32; 8];
     /// The answer number, units done, bytes lacking.
     fn run(&mut self, limit: u32) -> [u32; 3];
     /// Keeps the state for `reset`.
@@ -61,7 +59,8 @@ pub struct Proved {
 }
 
 impl Machine for Proved {
-    type Step = (u32, [u32; 6]);
+    /// The answer number, the unit, the bytes lacking.
+    type Step = (u32, UnitWords, u32);
 
     fn fresh() -> Proved {
         let mut state = [0; STATE_WORDS];
@@ -87,22 +86,24 @@ impl Machine for Proved {
         proved::feed(&mut self.state, &mut self.lent.ring, bytes)
     }
 
-    fn step(&mut self) -> (u32, [u32; 6]) {
+    fn step(&mut self) -> (u32, UnitWords, u32) {
         let Lent { ring, xf, vertex } = &mut *self.lent;
-        let mut answer = [0; 6];
-        let number = proved::step(&mut self.state, ring, xf, vertex, &mut answer);
-        (number, answer)
+        let mut unit = [0; 6];
+        let mut lacking = 0;
+        let number = proved::step(&mut self.state, ring, xf, vertex, &mut unit, &mut lacking);
+        (number, unit, lacking)
     }
 
-    fn step_words(&(number, [kind, a, b, c, d, told]): &(u32, [u32; 6]), _: u32) -> [u32; 7] {
-        [number, kind, a, b, c, d, told]
+    fn step_words(&(number, unit, lacking): &(u32, UnitWords, u32), _: u32) -> [u32; 8] {
+        let [kind, a, b, c, d, bytes] = unit;
+        [number, kind, a, b, c, d, bytes, lacking]
     }
 
     fn run(&mut self, limit: u32) -> [u32; 3] {
         let Lent { ring, xf, vertex } = &mut *self.lent;
-        let mut answer = [0; 2];
-        let number = proved::run(&mut self.state, ring, xf, vertex, limit, &mut answer);
-        let [units, lacking] = answer;
+        let mut report = [0; 2];
+        let number = proved::run(&mut self.state, ring, xf, vertex, limit, &mut report);
+        let [units, lacking] = report;
         [number, units, lacking]
     }
 
@@ -175,17 +176,17 @@ impl Machine for Plain {
         self.state.step(&mut memory(&mut self.lent))
     }
 
-    fn step_words(step: &Answer, bytes: u32) -> [u32; 7] {
+    fn step_words(step: &Answer, bytes: u32) -> [u32; 8] {
         match *step {
             Answer::Done {
                 command,
                 memory_address,
             } => {
-                let [kind, a, b, c, d] = command_words(command, memory_address);
-                [0, kind, a, b, c, d, bytes]
+                let [kind, a, b, c, d] = command_words(&command, memory_address);
+                [0, kind, a, b, c, d, bytes, 0]
             }
-            Answer::Waiting { lacking } => [WAITING, lacking, 0, 0, 0, 0, 0],
-            Answer::Refused(refusal) => [refusal.number().into(), 0, 0, 0, 0, 0, 0],
+            Answer::Waiting { lacking } => [WAITING, 0, 0, 0, 0, 0, 0, lacking],
+            Answer::Refused(refusal) => [refusal.number().into(), 0, 0, 0, 0, 0, 0, 0],
         }
     }
 
@@ -213,61 +214,4 @@ impl Machine for Plain {
     fn lent(&self) -> &Lent {
         &self.lent
     }
-}
-
-/// A command as the library tells it: kind and four fields.
-fn command_words(command: Command, memory_address: u32) -> [u32; 5] {
-    match command {
-        Command::NoOperation => [0x00, 0, 0, 0, 0],
-        Command::Vertex => [0x01, 0, 0, 0, 0],
-        Command::DiscardVertexCache => [0x48, 0, 0, 0, 0],
-        Command::Metrics => [0x68, 0, 0, 0, 0],
-        Command::CpLoad { address, number } => [0x08, address.into(), number, 0, 0],
-        Command::XfLoad { words, address } => [0x10, words.into(), address.into(), 0, 0],
-        Command::IndexedLoad {
-            array,
-            index,
-            words,
-            xf_address,
-        } => [
-            0x20 + 8 * (u32::from(array) - 12),
-            index.into(),
-            words.into(),
-            xf_address.into(),
-            memory_address,
-        ],
-        Command::CallList { address, size } => [0x40, address, size, 0, 0],
-        Command::BpLoad { register, number } => [0x61, register.into(), number, 0, 0],
-        Command::Draw {
-            primitive,
-            format,
-            count,
-        } => [0x80, primitive.into(), format.into(), count.into(), 0],
-    }
-}
-
-/// The 327 words of a state, in the library's order.
-fn state_words(state: &State) -> StateWords {
-    let window = &state.window;
-    let draw = state.draw.map_or([0; 4], |draw| {
-        [
-            1,
-            draw.primitive.into(),
-            draw.format.into(),
-            draw.left.into(),
-        ]
-    });
-    let words = [
-        &[window.start, window.end, window.high_mark, window.low_mark],
-        &[window.write, window.read, u32::from(state.control)][..],
-        &draw,
-        &state.cp.matrix,
-        &state.cp.vcd,
-        &state.cp.vat.concat(),
-        &state.cp.bases,
-        &state.cp.strides,
-        &state.bp,
-    ]
-    .concat();
-    words.try_into().expect("327 words")
 }

@@ -1,10 +1,10 @@
 //! Times the proved library beside the implementation in plain Rust and prints
 //! markdown tables. Nothing is timed before both gave the same on every row.
+#![forbid(unsafe_code)]
 
 mod formats;
 mod machine;
 mod player;
-mod proved;
 mod random;
 mod rows;
 mod streams;

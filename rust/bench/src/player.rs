@@ -1,10 +1,10 @@
 //! A machine brought to a row's start, what it does there, and the comparison
 //! of the two machines before anything is timed.
 
-use crate::machine::{Lent, Machine, Plain, Proved, RING, WAITING};
-use crate::proved::StateWords;
+use crate::machine::{Lent, Machine, Plain, Proved, RING};
 use crate::streams::Stream;
 use crate::timing::Side;
+use model::words::{StateWords, WAITING};
 use std::hint::black_box;
 
 /// The largest limit of a run.
@@ -24,6 +24,11 @@ pub enum Work {
     Feeds(Vec<u8>, u32),
     /// The bytes fed once; they are counted.
     FeedBytes(Vec<u8>),
+    /// So many runs of limit 0.
+    EmptyRuns(u32),
+    /// The stream in pieces of so many bytes, a feed and a run of each; the
+    /// pieces are counted.
+    Bursts(Stream, usize),
 }
 
 /// How a row starts and what it does.
@@ -40,8 +45,11 @@ impl Input {
     fn units(&self) -> u64 {
         match &self.work {
             Work::Run => u64::from(self.stream.units),
-            Work::Steps(times) | Work::Feeds(_, times) => u64::from(*times),
+            Work::Steps(times) | Work::Feeds(_, times) | Work::EmptyRuns(times) => {
+                u64::from(*times)
+            }
             Work::FeedBytes(bytes) => bytes.len() as u64,
+            Work::Bursts(stream, size) => stream.bytes.chunks(*size).len() as u64,
         }
     }
 }
@@ -76,6 +84,21 @@ impl<M: Machine> Side for Player<M> {
             Work::FeedBytes(bytes) => {
                 black_box(machine.feed(black_box(bytes)));
                 bytes.len() as u64
+            }
+            Work::EmptyRuns(times) => {
+                for _ in 0..*times {
+                    black_box(machine.run(black_box(0)));
+                }
+                u64::from(*times)
+            }
+            Work::Bursts(stream, size) => {
+                let bursts = stream.bytes.chunks(*size);
+                let count = bursts.len();
+                for burst in bursts {
+                    black_box(machine.feed(black_box(burst)));
+                    black_box(machine.run(black_box(LIMIT)));
+                }
+                count as u64
             }
         }
     }
@@ -120,7 +143,7 @@ fn set_up<M: Machine>(input: &Input) -> (M, Vec<u32>) {
 }
 
 /// One step, with the bytes that it took by the count register.
-fn step_told<M: Machine>(machine: &mut M) -> [u32; 7] {
+fn step_told<M: Machine>(machine: &mut M) -> [u32; 8] {
     let [_, before] = machine.read_register(0x030);
     let step = machine.step();
     let [_, after] = machine.read_register(0x030);
@@ -136,7 +159,7 @@ fn answers_of<M: Machine>(machine: &mut M, work: &Work) -> (Vec<u32>, u64) {
             (answer.to_vec(), u64::from(units))
         }
         Work::Steps(times) => {
-            let steps: Vec<[u32; 7]> = (0..*times).map(|_| step_told(machine)).collect();
+            let steps: Vec<[u32; 8]> = (0..*times).map(|_| step_told(machine)).collect();
             let done = steps.iter().filter(|words| words[0] == 0).count();
             (steps.concat(), done as u64)
         }
@@ -150,7 +173,38 @@ fn answers_of<M: Machine>(machine: &mut M, work: &Work) -> (Vec<u32>, u64) {
             let fed = if answer == 0 { bytes.len() } else { 0 };
             (vec![answer], fed as u64)
         }
+        Work::EmptyRuns(times) => {
+            let runs: Vec<[u32; 3]> = (0..*times).map(|_| machine.run(0)).collect();
+            let done = runs.iter().filter(|&&run| run == [0, 0, 0]).count();
+            (runs.concat(), done as u64)
+        }
+        Work::Bursts(stream, size) => bursts_told(machine, stream, *size),
     }
+}
+
+/// Every answer of a stream in bursts; no burst counts unless all were fed and
+/// all units of the stream were done.
+fn bursts_told<M: Machine>(machine: &mut M, stream: &Stream, size: usize) -> (Vec<u32>, u64) {
+    let mut answers = Vec::new();
+    let mut units = 0;
+    let bursts = stream.bytes.chunks(size);
+    let count = bursts.len() as u64;
+    for burst in bursts {
+        let fed = machine.feed(burst);
+        let run = machine.run(LIMIT);
+        units += run[1];
+        answers.push(fed);
+        answers.extend(run);
+    }
+    let good = answers.chunks(4).all(|told| told[..2] == [0, WAITING]);
+    (
+        answers,
+        if good && units == stream.units {
+            count
+        } else {
+            0
+        },
+    )
 }
 
 /// A player at the row's start, and what was seen of the machine as it did the

@@ -3,13 +3,13 @@
 use crate::formats::{LONGEST, ONE_BYTE, TWELVE_BYTES};
 use crate::machine::RING;
 use crate::player::{sides, Input, Sides, Work};
-use crate::proved::FormatWords;
 use crate::random::Random;
 use crate::streams::{
     bp_loads, cp_loads, draws, long_draw, mixed, no_operations, repeated, xf_loads, Stream,
 };
 use crate::timing::Side;
 use crate::vertices::{layouts, positions};
+use model::words::FormatWords;
 
 /// The most bytes that a ring holds.
 const ROOM: usize = RING - 1;
@@ -18,6 +18,9 @@ const SIXTEENTH: usize = ROOM / 16;
 /// A draw of so many vertices is alone in the ring and may not fit.
 const LONG: u32 = 60_000;
 const DRAW_SIZES: [u32; 3] = [3, 100, LONG];
+const BURSTS: [usize; 3] = [32, 256, 4096];
+/// How many runs of limit 0 one timed part has.
+const EMPTY_RUNS: u32 = 1000;
 const VERTICES: [(u32, FormatWords); 3] = [(1, ONE_BYTE), (12, TWELVE_BYTES), (129, LONGEST)];
 
 /// A row whose sides were compared.
@@ -75,6 +78,10 @@ pub fn rows() -> Result<Vec<Row>, String> {
     rows.push(stream_row("no-operations", no_operations(ROOM / 2))?);
     rows.extend(feed_rows()?);
     rows.push(step_row()?);
+    rows.push(empty_run_row()?);
+    for size in BURSTS {
+        rows.push(burst_row(size)?);
+    }
     rows.push(row("layout, per layout".into(), layouts())?);
     rows.push(row(
         "position of three s16, per decode".into(),
@@ -110,7 +117,8 @@ fn draw_row(count: u32, length: u32, words: &FormatWords) -> Result<Row, String>
     row(name, run(preamble, stream))
 }
 
-fn feeds(work: Work) -> Result<Sides, String> {
+/// Work that begins with an empty ring.
+fn from_empty(work: Work) -> Result<Sides, String> {
     sides(&Input {
         preamble: Stream::default(),
         stream: Stream::default(),
@@ -128,13 +136,13 @@ fn feed_rows() -> Result<[Row; 3], String> {
     Ok([
         row(
             "wrapped feed of 65,535 bytes, per feed".into(),
-            feeds(Work::Feeds(full.clone(), 1)),
+            from_empty(Work::Feeds(full.clone(), 1)),
         )?,
         row(
             "wrapped feed of 65,535 bytes, per byte".into(),
-            feeds(Work::FeedBytes(full)),
+            from_empty(Work::FeedBytes(full)),
         )?,
-        row(name, feeds(Work::Feeds(small, times)))?,
+        row(name, from_empty(Work::Feeds(small, times)))?,
     ])
 }
 
@@ -151,6 +159,21 @@ fn step_row() -> Result<Row, String> {
         work: Work::Steps(steps),
     };
     row(name, sides(&input))
+}
+
+fn empty_run_row() -> Result<Row, String> {
+    let name = format!("run of limit 0, per run ({} runs)", thousands(EMPTY_RUNS));
+    row(name, from_empty(Work::EmptyRuns(EMPTY_RUNS)))
+}
+
+fn burst_row(size: usize) -> Result<Row, String> {
+    let stream = mixed(ROOM);
+    let name = format!(
+        "mixed stream in bursts of {} bytes, a feed and a run, per burst ({} bursts)",
+        thousands(size as u32),
+        thousands(stream.bytes.chunks(size).len() as u32)
+    );
+    row(name, from_empty(Work::Bursts(stream, size)))
 }
 
 /// The second table: a stream once, four times and sixteen times, so that all

@@ -1,13 +1,12 @@
 //! The rows without a machine: layouts and one attribute.
 
-use crate::formats::USUAL;
-use crate::formats::{vertex_format, vertex_length, LONGEST, ONE_BYTE, POSITION_S16, TWELVE_BYTES};
+use crate::formats::{vertex_length, LONGEST, ONE_BYTE, POSITION_S16, TWELVE_BYTES, USUAL};
 use crate::machine::number;
 use crate::player::Sides;
-use crate::proved::{self, FormatWords, ATTRIBUTES};
 use crate::random::Random;
 use crate::timing::Stateless;
-use model::{decode, layout, Attribute, Layout, Refusal};
+use model::words::{format_of, FormatWords};
+use model::{decode, layout, Attribute, Layout, Refusal, ATTRIBUTES};
 use std::hint::black_box;
 
 /// How often a timed part goes through its inputs.
@@ -47,7 +46,7 @@ fn same_layout(proved: &LaidOut, plain: &Result<Layout, Refusal>) -> bool {
 pub fn layouts() -> Result<Sides, String> {
     let mut formats = vec![ONE_BYTE, TWELVE_BYTES, LONGEST];
     formats.extend(USUAL);
-    let plain_formats: Vec<_> = formats.iter().map(vertex_format).collect();
+    let plain_formats: Vec<_> = formats.iter().map(format_of).collect();
     for (words, format) in formats.iter().zip(&plain_formats) {
         if !same_layout(&proved_layout(words), &layout(format)) {
             return Err(format!("the layouts of {words:X?} differ"));
@@ -79,7 +78,7 @@ fn proved_position(vertex: &[u8]) -> (u32, [u32; 10]) {
 }
 
 fn plain_position(vertex: &[u8]) -> Result<Attribute, Refusal> {
-    decode(&vertex_format(&POSITION_S16), POSITION, vertex)
+    decode(&format_of(&POSITION_S16), POSITION, vertex)
 }
 
 fn same_position(proved: &(u32, [u32; 10]), plain: &Result<Attribute, Refusal>) -> bool {

@@ -1,7 +1,7 @@
 //! Vertex formats by chance: mostly good, with every attribute and format.
 
 use crate::random::Random;
-use model::VertexFormat;
+use model::words::FormatWords;
 
 /// The places of the component formats in the VAT, as (group, bit).
 const COMPONENT_FORMATS: [(usize, u32); 10] = [
@@ -22,8 +22,14 @@ fn put(vat: &mut [u32; 3], (group, bit): (usize, u32), value: u32) {
     vat[group] = vat[group] & !(7 << bit) | value << bit;
 }
 
+/// All components f32, the largest counts, colour format 5.
+const LONGEST: [u32; 3] = [0x0135_5209, 0x4824_1209, 0x0482_4120];
+
 /// A VAT whose formats are all good; counts, shifts and other bits by chance.
 pub fn good_vat(random: &mut Random) -> [u32; 3] {
+    if random.once_in(10) {
+        return LONGEST;
+    }
     let mut vat = [random.u32(), random.u32(), random.u32()];
     let all_f32 = random.once_in(6);
     for place in COMPONENT_FORMATS {
@@ -61,30 +67,32 @@ pub fn good_vcd(random: &mut Random) -> [u32; 2] {
     vcd
 }
 
-pub fn good_format(random: &mut Random) -> VertexFormat {
-    VertexFormat {
-        vcd: good_vcd(random),
-        vat: good_vat(random),
-    }
+fn words(vcd: [u32; 2], vat: [u32; 3]) -> FormatWords {
+    [vcd[0], vcd[1], vat[0], vat[1], vat[2]]
+}
+
+pub fn good_format(random: &mut Random) -> FormatWords {
+    words(good_vcd(random), good_vat(random))
 }
 
 /// A format that is good more often than not.
-pub fn any_format(random: &mut Random) -> VertexFormat {
+pub fn any_format(random: &mut Random) -> FormatWords {
     match random.below(10) {
-        0 => VertexFormat {
-            vcd: [random.u32(), random.u32()],
-            vat: [0; 3].map(|_| random.u32()),
-        },
-        1 => VertexFormat {
-            vcd: good_vcd(random),
-            vat: bad_vat(random),
-        },
-        2 => VertexFormat {
-            vcd: [random.u32() & !0x600, random.u32()],
-            vat: good_vat(random),
-        },
+        0 => random.array(),
+        1 => words(good_vcd(random), bad_vat(random)),
+        2 => words([random.u32() & !0x600, random.u32()], good_vat(random)),
+        // Few bits set.
+        3 => random
+            .array()
+            .map(|word: u32| word & random.u32() & random.u32()),
         _ => good_format(random),
     }
+}
+
+/// The bytes of a vertex; none where 9 or 10 refuse its layout.
+pub fn length_of(format: &FormatWords) -> Option<usize> {
+    let layout = model::layout(&model::words::format_of(format));
+    Some(usize::from(layout.ok()?.length))
 }
 
 /// Vertex bytes, with patterns of f32s at some edge among them.

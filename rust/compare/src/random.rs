@@ -9,7 +9,7 @@ impl Random {
         Random { state: seed }
     }
 
-    pub fn next(&mut self) -> u64 {
+    pub fn u64(&mut self) -> u64 {
         self.state = self.state.wrapping_add(0x9E37_79B9_7F4A_7C15);
         let mut mixed = self.state;
         mixed = (mixed ^ mixed >> 30).wrapping_mul(0xBF58_476D_1CE4_E5B9);
@@ -18,20 +18,20 @@ impl Random {
     }
 
     pub fn u8(&mut self) -> u8 {
-        self.next() as u8
+        self.u64() as u8
     }
 
     pub fn u16(&mut self) -> u16 {
-        self.next() as u16
+        self.u64() as u16
     }
 
     pub fn u32(&mut self) -> u32 {
-        self.next() as u32
+        self.u64() as u32
     }
 
     /// 0 to n minus 1.
     pub fn below(&mut self, n: u32) -> u32 {
-        (self.next() % u64::from(n)) as u32
+        (self.u64() % u64::from(n)) as u32
     }
 
     /// Both ends included.
@@ -49,7 +49,20 @@ impl Random {
     }
 
     pub fn bytes(&mut self, count: usize) -> Vec<u8> {
-        (0..count).map(|_| self.u8()).collect()
+        let mut bytes = vec![0; count];
+        for eight in bytes.chunks_mut(8) {
+            let length = eight.len();
+            eight.copy_from_slice(&self.u64().to_le_bytes()[..length]);
+        }
+        bytes
+    }
+
+    pub fn words(&mut self, count: usize) -> Vec<u32> {
+        (0..count).map(|_| self.u32()).collect()
+    }
+
+    pub fn array<const N: usize>(&mut self) -> [u32; N] {
+        std::array::from_fn(|_| self.u32())
     }
 
     /// A word that is often at some edge.

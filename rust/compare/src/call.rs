@@ -1,0 +1,262 @@
+//! A call with all that is handed in and all that is lent for its values.
+
+use crate::side::Side;
+use crate::world::{Lent, World};
+use model::words::{CommandWords, FormatWords, ReportWords, UnitWords, ValueWords, DONE, WAITING};
+use model::ATTRIBUTES;
+
+/// The masks and numbers of a patch, of any lengths.
+#[derive(Clone, Debug, PartialEq, Eq)]
+pub struct Patch {
+    pub masks: Vec<u32>,
+    pub numbers: Vec<u32>,
+}
+
+impl Patch {
+    /// A patch that names nothing.
+    pub fn empty() -> Patch {
+        Patch {
+            masks: vec![0; 256],
+            numbers: vec![0; 256],
+        }
+    }
+
+    /// A patch that names these registers alone: register, mask, number.
+    pub fn of(entries: &[(usize, u32, u32)]) -> Patch {
+        let mut patch = Patch::empty();
+        for &(register, mask, number) in entries {
+            patch.masks[register] = mask;
+            patch.numbers[register] = number;
+        }
+        patch
+    }
+}
+
+#[derive(Clone, Copy, Debug, PartialEq, Eq, PartialOrd, Ord)]
+pub enum Kind {
+    Fresh,
+    ReadRegister,
+    WriteRegister,
+    Feed,
+    Step,
+    Run,
+    LayOut,
+    Decode,
+    RawWords,
+    WriteCommand,
+    CheckPatch,
+    MergePatches,
+    WritePatch,
+}
+
+pub const KINDS: [Kind; 13] = [
+    Kind::Fresh,
+    Kind::ReadRegister,
+    Kind::WriteRegister,
+    Kind::Feed,
+    Kind::Step,
+    Kind::Run,
+    Kind::LayOut,
+    Kind::Decode,
+    Kind::RawWords,
+    Kind::WriteCommand,
+    Kind::CheckPatch,
+    Kind::MergePatches,
+    Kind::WritePatch,
+];
+
+impl Kind {
+    pub fn name(self) -> &'static str {
+        match self {
+            Kind::Fresh => "fresh",
+            Kind::ReadRegister => "read_register",
+            Kind::WriteRegister => "write_register",
+            Kind::Feed => "feed",
+            Kind::Step => "step",
+            Kind::Run => "run",
+            Kind::LayOut => "lay_out",
+            Kind::Decode => "decode",
+            Kind::RawWords => "raw_words",
+            Kind::WriteCommand => "write_command",
+            Kind::CheckPatch => "check_patch",
+            Kind::MergePatches => "merge_patches",
+            Kind::WritePatch => "write_patch",
+        }
+    }
+
+    /// The answers that document 01 lets the call give.
+    pub fn answers(self) -> &'static [u32] {
+        match self {
+            Kind::Fresh => &[DONE],
+            Kind::ReadRegister => &[DONE, 1, 17],
+            Kind::WriteRegister => &[DONE, 17],
+            Kind::Feed => &[DONE, 1, 11],
+            Kind::Step | Kind::Run => &[DONE, 1, 2, 3, 4, 5, 6, 7, 8, 9, 10, WAITING],
+            Kind::LayOut => &[DONE, 9, 10],
+            Kind::Decode | Kind::RawWords => &[DONE, 9, 10, 19],
+            Kind::WriteCommand => &[DONE, 7, 8, 16, 18],
+            Kind::CheckPatch | Kind::MergePatches => &[DONE, 12, 13, 14, 15],
+            Kind::WritePatch => &[DONE, 12, 13, 14, 15, 16],
+        }
+    }
+}
+
+/// Compared whole after the call: what is handed in too.
+#[derive(Clone, Debug, PartialEq, Eq)]
+pub enum Call {
+    Fresh,
+    ReadRegister {
+        offset: u16,
+        value: u32,
+    },
+    WriteRegister {
+        offset: u16,
+        value: u16,
+    },
+    Feed {
+        bytes: Vec<u8>,
+    },
+    Step {
+        unit: UnitWords,
+        lacking: u32,
+    },
+    Run {
+        limit: u32,
+        report: ReportWords,
+    },
+    LayOut {
+        format: FormatWords,
+        sizes: [u8; ATTRIBUTES],
+        offsets: [u8; ATTRIBUTES],
+        length: u32,
+    },
+    Decode {
+        format: FormatWords,
+        attribute: u32,
+        vertex: Vec<u8>,
+        values: ValueWords,
+    },
+    RawWords {
+        format: FormatWords,
+        attribute: u32,
+        vertex: Vec<u8>,
+        values: ValueWords,
+    },
+    WriteCommand {
+        command: CommandWords,
+        words: Vec<u32>,
+        output: Vec<u8>,
+        written: u32,
+    },
+    CheckPatch {
+        patch: Patch,
+    },
+    MergePatches {
+        a: Patch,
+        b: Patch,
+        result: Patch,
+    },
+    WritePatch {
+        patch: Patch,
+        output: Vec<u8>,
+        written: u32,
+    },
+}
+
+impl Call {
+    pub fn kind(&self) -> Kind {
+        match self {
+            Call::Fresh => Kind::Fresh,
+            Call::ReadRegister { .. } => Kind::ReadRegister,
+            Call::WriteRegister { .. } => Kind::WriteRegister,
+            Call::Feed { .. } => Kind::Feed,
+            Call::Step { .. } => Kind::Step,
+            Call::Run { .. } => Kind::Run,
+            Call::LayOut { .. } => Kind::LayOut,
+            Call::Decode { .. } => Kind::Decode,
+            Call::RawWords { .. } => Kind::RawWords,
+            Call::WriteCommand { .. } => Kind::WriteCommand,
+            Call::CheckPatch { .. } => Kind::CheckPatch,
+            Call::MergePatches { .. } => Kind::MergePatches,
+            Call::WritePatch { .. } => Kind::WritePatch,
+        }
+    }
+
+    /// Makes the call of one side; its answer.
+    pub fn make(&mut self, side: &dyn Side, world: &mut World, lent: &Lent) -> u32 {
+        match self {
+            Call::LayOut {
+                format,
+                sizes,
+                offsets,
+                length,
+            } => side.lay_out(format, sizes, offsets, length),
+            Call::Decode {
+                format,
+                attribute,
+                vertex,
+                values,
+            } => side.decode(format, *attribute, vertex, values),
+            Call::RawWords {
+                format,
+                attribute,
+                vertex,
+                values,
+            } => side.raw_words(format, *attribute, vertex, values),
+            Call::WriteCommand {
+                command,
+                words,
+                output,
+                written,
+            } => side.write_command(command, words, output, written),
+            Call::CheckPatch { .. } | Call::MergePatches { .. } | Call::WritePatch { .. } => {
+                self.make_with_patches(side)
+            }
+            _ => self.make_with_state(side, world, lent),
+        }
+    }
+
+    fn make_with_patches(&mut self, side: &dyn Side) -> u32 {
+        match self {
+            Call::CheckPatch { patch } => side.check_patch(&patch.masks, &patch.numbers),
+            Call::MergePatches { a, b, result } => side.merge_patches(
+                &a.masks,
+                &a.numbers,
+                &b.masks,
+                &b.numbers,
+                &mut result.masks,
+                &mut result.numbers,
+            ),
+            Call::WritePatch {
+                patch,
+                output,
+                written,
+            } => side.write_patch(&patch.masks, &patch.numbers, output, written),
+            _ => unreachable!("a call with patches"),
+        }
+    }
+
+    fn make_with_state(&mut self, side: &dyn Side, world: &mut World, lent: &Lent) -> u32 {
+        let World {
+            state,
+            ring,
+            xf,
+            vertex,
+        } = world;
+        let ring = &mut ring[..lent.ring];
+        let xf = &mut xf[..lent.xf];
+        let vertex = &mut vertex[..lent.vertex];
+        match self {
+            Call::Fresh => {
+                side.fresh(state);
+                DONE
+            }
+            Call::ReadRegister { offset, value } => side.read_register(state, *offset, value),
+            Call::WriteRegister { offset, value } => side.write_register(state, *offset, *value),
+            Call::Feed { bytes } => side.feed(state, ring, bytes),
+            Call::Step { unit, lacking } => side.step(state, ring, xf, vertex, unit, lacking),
+            Call::Run { limit, report } => side.run(state, ring, xf, vertex, *limit, report),
+            _ => unreachable!("a call with the state"),
+        }
+    }
+}

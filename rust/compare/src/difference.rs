@@ -1,0 +1,385 @@
+//! What differs between the two sides after a call, and what both do that the
+//! header does not allow.
+
+use crate::call::{Call, Kind, Patch};
+use crate::world::{word, Lent, World};
+use model::words::{DONE, WAITING};
+use std::fmt::Write;
+
+/// A call after both sides made it.
+pub struct Made<'a> {
+    pub names: [&'static str; 2],
+    pub lent: &'a Lent,
+    /// The caller's memory, and the call, as they were before.
+    pub before: &'a World,
+    pub call: &'a Call,
+    pub answers: [u32; 2],
+    pub calls: &'a [Call; 2],
+    pub worlds: &'a [World; 2],
+}
+
+/// Something that was lent or handed in, by its name.
+type Part = (&'static str, Vec<u32>);
+
+fn widen(bytes: &[u8]) -> Vec<u32> {
+    bytes.iter().map(|&byte| byte.into()).collect()
+}
+
+fn world_parts(world: &World) -> Vec<Part> {
+    vec![
+        ("state", world.state.to_vec()),
+        ("ring", widen(&world.ring)),
+        ("XF words", world.xf.clone()),
+        ("vertex buffer", widen(&world.vertex)),
+    ]
+}
+
+fn patch_parts(names: [&'static str; 2], patch: &Patch) -> [Part; 2] {
+    [
+        (names[0], patch.masks.clone()),
+        (names[1], patch.numbers.clone()),
+    ]
+}
+
+fn call_parts(call: &Call) -> Vec<Part> {
+    match call {
+        Call::Fresh => vec![],
+        Call::ReadRegister { offset, value } => {
+            vec![
+                ("offset", vec![u32::from(*offset)]),
+                ("value", vec![*value]),
+            ]
+        }
+        Call::WriteRegister { offset, value } => vec![
+            ("offset", vec![u32::from(*offset)]),
+            ("value", vec![u32::from(*value)]),
+        ],
+        Call::Feed { bytes } => vec![("bytes", widen(bytes))],
+        Call::Step { unit, lacking } => {
+            vec![("unit", unit.to_vec()), ("lacking", vec![*lacking])]
+        }
+        Call::Run { limit, report } => {
+            vec![("limit", vec![*limit]), ("report", report.to_vec())]
+        }
+        _ => stateless_parts(call),
+    }
+}
+
+fn stateless_parts(call: &Call) -> Vec<Part> {
+    match call {
+        Call::LayOut {
+            format,
+            sizes,
+            offsets,
+            length,
+        } => vec![
+            ("format", format.to_vec()),
+            ("sizes", widen(sizes)),
+            ("offsets", widen(offsets)),
+            ("length", vec![*length]),
+        ],
+        Call::Decode {
+            format,
+            attribute,
+            vertex,
+            values,
+        }
+        | Call::RawWords {
+            format,
+            attribute,
+            vertex,
+            values,
+        } => vec![
+            ("format", format.to_vec()),
+            ("attribute", vec![*attribute]),
+            ("vertex", widen(vertex)),
+            ("values", values.to_vec()),
+        ],
+        _ => written_parts(call),
+    }
+}
+
+fn written_parts(call: &Call) -> Vec<Part> {
+    match call {
+        Call::WriteCommand {
+            command,
+            words,
+            output,
+            written,
+        } => vec![
+            ("command", command.to_vec()),
+            ("words", words.clone()),
+            ("output", widen(output)),
+            ("written", vec![*written]),
+        ],
+        Call::CheckPatch { patch } => patch_parts(["masks", "numbers"], patch).to_vec(),
+        Call::MergePatches { a, b, result } => [
+            patch_parts(["a_masks", "a_numbers"], a),
+            patch_parts(["b_masks", "b_numbers"], b),
+            patch_parts(["masks", "numbers"], result),
+        ]
+        .concat(),
+        Call::WritePatch {
+            patch,
+            output,
+            written,
+        } => {
+            let mut parts = patch_parts(["masks", "numbers"], patch).to_vec();
+            parts.push(("output", widen(output)));
+            parts.push(("written", vec![*written]));
+            parts
+        }
+        _ => vec![],
+    }
+}
+
+/// The first part that differs, its first place that does, and both values.
+fn first(these: &[Part], those: &[Part]) -> Option<(String, [String; 2])> {
+    for ((name, a), (_, b)) in these.iter().zip(those) {
+        let longest = a.len().max(b.len());
+        let differs = (0..longest).find(|&at| a.get(at) != b.get(at));
+        if let Some(at) = differs {
+            let value = |list: &[u32]| {
+                list.get(at)
+                    .map_or("none".into(), |word| format!("{word:X}"))
+            };
+            return Some((format!("{name}, place {at}"), [value(a), value(b)]));
+        }
+    }
+    None
+}
+
+/// What both sides changed alike, from a value that should have stayed.
+fn both_changed((place, [before, after]): (String, [String; 2])) -> (String, [String; 2]) {
+    let what = format!("nothing, but both changed {place} from {before}");
+    (what, [after.clone(), after])
+}
+
+/// A list in hex: whole where it is short, else its places that are not 0.
+fn list(words: &[u32]) -> String {
+    const MOST: usize = 400;
+    if words.len() <= 40 {
+        let all: Vec<String> = words.iter().map(|word| format!("{word:X}")).collect();
+        return format!("[{}]", all.join(" "));
+    }
+    let places = words.iter().enumerate().filter(|(_, &word)| word != 0);
+    let told: Vec<String> = places
+        .take(MOST)
+        .map(|(at, word)| format!("{at}:{word:X}"))
+        .collect();
+    format!("{} places, but 0: {}", words.len(), told.join(" "))
+}
+
+impl Made<'_> {
+    /// The first difference, or the first thing that the header rules out.
+    pub fn fault(&self) -> Option<String> {
+        let found = self.differs().or_else(|| self.breaks_the_header());
+        found.map(|(what, values)| self.tell(&what, &values))
+    }
+
+    fn differs(&self) -> Option<(String, [String; 2])> {
+        let [a, b] = self.answers;
+        if a != b {
+            return Some(("answer".into(), [a.to_string(), b.to_string()]));
+        }
+        if self.calls[0] != self.calls[1] {
+            return first(&call_parts(&self.calls[0]), &call_parts(&self.calls[1]));
+        }
+        if self.worlds[0] != self.worlds[1] {
+            return first(&world_parts(&self.worlds[0]), &world_parts(&self.worlds[1]));
+        }
+        None
+    }
+
+    /// What both sides did alike against the header: an answer that the call
+    /// cannot give, or something changed that stays.
+    fn breaks_the_header(&self) -> Option<(String, [String; 2])> {
+        let answer = self.answers[0];
+        if !self.call.kind().answers().contains(&answer) {
+            let what = "nothing, but the call cannot give this answer".to_string();
+            return Some((what, [answer, answer].map(|a| a.to_string())));
+        }
+        let expected = self.rightful_call();
+        if self.calls[0] != expected {
+            let found = first(&call_parts(&expected), &call_parts(&self.calls[0]));
+            return found.map(both_changed);
+        }
+        let part = self.changed_part()?;
+        let of = |world| -> Vec<Part> {
+            let parts = world_parts(world).into_iter();
+            parts.filter(|(name, _)| *name == part).collect()
+        };
+        first(&of(self.before), &of(&self.worlds[0])).map(both_changed)
+    }
+
+    /// The call as it may be after its answer: a refused or waiting one as it
+    /// was but for its report, an accepted one with its values.
+    fn rightful_call(&self) -> Call {
+        let mut rightful = self.call.clone();
+        let done = self.answers[0] == DONE;
+        let waits = self.answers[0] == WAITING;
+        match (&mut rightful, &self.calls[0]) {
+            (
+                Call::Step { unit, lacking },
+                Call::Step {
+                    unit: u,
+                    lacking: l,
+                },
+            ) => {
+                *lacking = if waits { *l } else { 0 };
+                if done {
+                    *unit = *u;
+                }
+            }
+            (
+                Call::Run { report, .. },
+                Call::Run {
+                    report: [units, l], ..
+                },
+            ) => {
+                *report = [*units, if waits { *l } else { 0 }];
+            }
+            (rightful, after) if done => take_values(rightful, after),
+            _ => {}
+        }
+        rightful
+    }
+
+    /// A part of the caller's memory that changed though it stays.
+    fn changed_part(&self) -> Option<&'static str> {
+        let (before, after) = (self.before, &self.worlds[0]);
+        let kind = self.call.kind();
+        let still = match &self.calls[0] {
+            Call::Run { report, .. } => report[0] == 0,
+            _ => self.answers[0] != DONE,
+        };
+        let takes = matches!(kind, Kind::Step | Kind::Run) && !still;
+        let feeds = kind == Kind::Feed && !still;
+        if before.ring != after.ring && !feeds {
+            Some("ring")
+        } else if before.xf != after.xf && !takes {
+            Some("XF words")
+        } else if before.vertex != after.vertex && !takes {
+            Some("vertex buffer")
+        } else if !takes && kind != Kind::Fresh && !self.state_stays(still) {
+            Some("state")
+        } else {
+            None
+        }
+    }
+
+    /// A feed changes the write pointer, a register's write one word of 0 to 6,
+    /// and other calls that are asked here none.
+    fn state_stays(&self, still: bool) -> bool {
+        let (before, after) = (&self.before.state, &self.worlds[0].state);
+        if still {
+            return before == after;
+        }
+        let mut changed = (0..before.len()).filter(|&at| before[at] != after[at]);
+        match (self.call.kind(), changed.next(), changed.next()) {
+            (_, None, _) => true,
+            (Kind::Feed, Some(at), None) => at == word::WRITE,
+            (Kind::WriteRegister, Some(at), None) => at <= word::CONTROL,
+            _ => false,
+        }
+    }
+
+    fn tell(&self, what: &str, values: &[String; 2]) -> String {
+        let mut text = format!("{}:", self.call.kind().name());
+        for (name, words) in call_parts(self.call) {
+            let _ = write!(text, "\n    {name} {}", list(&words));
+        }
+        if matches!(
+            self.call.kind(),
+            Kind::ReadRegister | Kind::WriteRegister | Kind::Feed | Kind::Step | Kind::Run
+        ) {
+            self.tell_world(&mut text);
+        }
+        let [a, b] = self.names;
+        let _ = write!(text, "\n  differs first: {what}");
+        let _ = write!(text, "\n    {a}: {}\n    {b}: {}", values[0], values[1]);
+        let _ = write!(
+            text,
+            "\n  answers {} and {}",
+            self.answers[0], self.answers[1]
+        );
+        text
+    }
+
+    /// The state before the call, and the ring from its read pointer on.
+    fn tell_world(&self, text: &mut String) {
+        let Lent { ring, xf, vertex } = self.lent;
+        let state = &self.before.state;
+        let _ = write!(
+            text,
+            "\n    lent: ring {ring}, XF words {xf}, vertex {vertex}"
+        );
+        let _ = write!(text, "\n    state {}", list(state));
+        let place = state[word::READ].wrapping_sub(state[word::START]) as usize;
+        let pending = self.before.ring.get(place..).unwrap_or_default();
+        let shown = &pending[..pending.len().min(40)];
+        let _ = write!(
+            text,
+            "\n    ring from the read pointer {}",
+            list(&widen(shown))
+        );
+    }
+}
+
+/// Takes over what an accepted call tells; all else stays as it was.
+fn take_values(call: &mut Call, after: &Call) {
+    match (call, after) {
+        (Call::ReadRegister { value, .. }, Call::ReadRegister { value: told, .. }) => {
+            *value = *told;
+        }
+        (
+            Call::LayOut {
+                sizes,
+                offsets,
+                length,
+                ..
+            },
+            Call::LayOut {
+                sizes: s,
+                offsets: o,
+                length: l,
+                ..
+            },
+        ) => (*sizes, *offsets, *length) = (*s, *o, *l),
+        (Call::Decode { values, .. }, Call::Decode { values: told, .. })
+        | (Call::RawWords { values, .. }, Call::RawWords { values: told, .. }) => *values = *told,
+        (Call::MergePatches { result, .. }, Call::MergePatches { result: told, .. }) => {
+            result.clone_from(told);
+        }
+        (call, after) => take_written(call, after),
+    }
+}
+
+/// "bytes past what is written stay" (document 01)
+fn take_written(call: &mut Call, after: &Call) {
+    if let (
+        Call::WriteCommand {
+            output, written, ..
+        },
+        Call::WriteCommand {
+            output: o,
+            written: w,
+            ..
+        },
+    )
+    | (
+        Call::WritePatch {
+            output, written, ..
+        },
+        Call::WritePatch {
+            output: o,
+            written: w,
+            ..
+        },
+    ) = (call, after)
+    {
+        let front = (*w as usize).min(output.len());
+        output[..front].copy_from_slice(&o[..front]);
+        *written = *w;
+    }
+}

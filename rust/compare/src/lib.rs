@@ -1,0 +1,16 @@
+//! Drives two sides, the proved library over its C interface and the twin in
+//! plain Rust, through the same calls, and compares all that they answer and
+//! all that they leave after every call.
+#![forbid(unsafe_code)]
+
+pub mod call;
+mod difference;
+pub mod duo;
+mod formats;
+pub mod random;
+pub mod scenarios;
+pub mod side;
+mod stream;
+pub mod tally;
+mod units;
+pub mod world;

@@ -1,0 +1,61 @@
+//! What both sides are driven through. The fixed part is the same whatever the
+//! seed; each scenario by chance begins from a fresh state and drives one part.
+
+mod draws;
+mod patches;
+mod refusals;
+mod registers;
+mod states;
+mod streams;
+mod tables;
+mod vertices;
+mod wild;
+mod worked;
+mod writer;
+
+use crate::duo::Duo;
+use crate::random::Random;
+
+/// The worked numbers, every refusal from every call that can give it, every
+/// row of the tables.
+pub fn fixed(duo: &mut Duo) {
+    worked::worked(duo);
+    refusals::every_refusal(duo);
+    tables::every_table_row(duo);
+}
+
+/// One scenario by chance.
+pub fn by_chance(duo: &mut Duo, random: &mut Random) {
+    match random.below(40) {
+        0..=3 => streams::stream(duo, random),
+        4 => streams::runs(duo, random),
+        5..=8 => streams::mutated(duo, random),
+        9..=18 => states::broken(duo, random),
+        19..=21 => draws::open_draw(duo, random),
+        22 | 23 => draws::draws(duo, random),
+        24 | 25 => registers::registers(duo, random),
+        26 => streams::feeds(duo, random),
+        27 | 28 => vertices::vertices(duo, random),
+        29 | 30 => writer::writer(duo, random),
+        31 => writer::read_back(duo, random),
+        32 | 33 => patches::patches(duo, random),
+        34 => patches::through_the_ring(duo, random),
+        35..=38 => wild::wild(duo, random),
+        _ => match random.below(8) {
+            0 => draws::big_draw(duo, random),
+            1..=3 => registers::offsets(duo, random),
+            4 => registers::first_bytes(duo, random),
+            _ => streams::runs(duo, random),
+        },
+    }
+}
+
+/// The fixed part, then scenarios from the seed until so many calls were made
+/// or a difference was found.
+pub fn compare(duo: &mut Duo, seed: u64, calls: u64) {
+    fixed(duo);
+    let mut random = Random::new(seed);
+    while duo.tally.calls < calls && duo.fault().is_none() {
+        by_chance(duo, &mut random);
+    }
+}

@@ -1,0 +1,134 @@
+//! Streams of units, good and spoilt, and feeds about the room that is left.
+
+use crate::duo::Duo;
+use crate::random::Random;
+use crate::stream::{look, open_ring, open_ring_of, play, scatter_registers, Pace, Ring};
+use crate::units::Units;
+
+/// Units that mean something; sometimes the last is refused.
+pub fn stream(duo: &mut Duo, random: &mut Random) {
+    duo.scenario("stream");
+    let ring = open_ring(duo, random);
+    let mut units = Units::new(scatter_registers(duo, random));
+    let (pace, most) = match random.below(6) {
+        0 => (Pace::ByteByByte, 5),
+        1 | 2 => (Pace::Bulk, 40),
+        _ => (Pace::Mixed, 25),
+    };
+    for _ in 0..random.between(1, most) {
+        units.add(random);
+    }
+    play(duo, random, &ring, &units.bytes(), pace);
+    if random.once_in(2) {
+        units.units.clear();
+        units.add_refused(random);
+        play(duo, random, &ring, &units.bytes(), Pace::ByteByByte);
+        duo.feed(&[0]);
+        duo.step();
+        duo.run(3);
+    }
+}
+
+/// Many units, taken by runs alone: their limits cut draws and rows of loads.
+pub fn runs(duo: &mut Duo, random: &mut Random) {
+    duo.scenario("runs");
+    let size = random.pick(&[256, 512, 2048]);
+    let ring = open_ring_of(duo, random, size);
+    let mut units = Units::new(scatter_registers(duo, random));
+    for _ in 0..random.between(20, 80) {
+        if random.once_in(2) {
+            units.add_loads(random);
+        } else {
+            units.add(random);
+        }
+    }
+    play(duo, random, &ring, &units.bytes(), Pace::Runs);
+}
+
+/// Units with bytes changed, put in or left out; feeds may be refused.
+pub fn mutated(duo: &mut Duo, random: &mut Random) {
+    duo.scenario("mutated stream");
+    let ring = open_ring(duo, random);
+    let mut units = Units::new(scatter_registers(duo, random));
+    for _ in 0..random.between(1, 20) {
+        units.add(random);
+    }
+    let mut bytes = units.bytes();
+    for _ in 0..random.between(1, 6) {
+        mutate(random, &mut bytes);
+    }
+    let mut rest = &bytes[..];
+    while !rest.is_empty() {
+        let (piece, after) = rest.split_at(random.between(1, 90).min(rest.len() as u32) as usize);
+        duo.feed(piece);
+        rest = after;
+        for _ in 0..random.below(4) {
+            if random.once_in(3) {
+                duo.run(random.below(20));
+            } else {
+                duo.step();
+            }
+        }
+        look(duo, random);
+        if random.once_in(3) {
+            skip_some(duo, random, &ring);
+        }
+    }
+    duo.run(65_535);
+}
+
+fn mutate(random: &mut Random, bytes: &mut Vec<u8>) {
+    if bytes.is_empty() {
+        return;
+    }
+    let at = random.below(bytes.len() as u32) as usize;
+    match random.below(4) {
+        0 => bytes[at] ^= 1 << random.below(8),
+        1 => bytes[at] = random.u8(),
+        2 => bytes.insert(at, random.u8()),
+        _ => {
+            bytes.remove(at);
+        }
+    }
+}
+
+/// Moves the read pointer, as a caller would after a refusal.
+fn skip_some(duo: &mut Duo, random: &mut Random, ring: &Ring) {
+    let pointer = ring.start + random.below(ring.size);
+    duo.write(0x038, pointer as u16);
+    duo.write(0x03A, (pointer >> 16) as u16);
+}
+
+/// Feeds about the room that is left, with no-operations run between.
+pub fn feeds(duo: &mut Duo, random: &mut Random) {
+    duo.scenario("feeds");
+    let ring = open_ring(duo, random);
+    let mut held = 0;
+    let rounds = if ring.size > 4096 { 4 } else { 12 };
+    for _ in 0..rounds {
+        let room = ring.size - 1 - held;
+        let length = match random.below(7) {
+            0 => room,
+            1 => room + 1,
+            2 => 0,
+            3 => room.saturating_sub(1),
+            4 => room + random.between(1, 300),
+            5 if random.once_in(4) => random.pick(&[65_535, 65_536, 70_000]),
+            _ => random.below(room + 1),
+        };
+        let bytes: Vec<u8> = (0..length)
+            .map(|_| random.pick(&[0x00, 0x48, 0x68]))
+            .collect();
+        duo.feed(&bytes);
+        if length <= room {
+            held += length;
+        }
+        duo.read(0x030);
+        duo.read(0x000);
+        if random.once_in(2) {
+            let limit = random.below(held + 2);
+            duo.run(limit);
+            held -= limit.min(held);
+        }
+    }
+}

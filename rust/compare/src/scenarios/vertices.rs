@@ -1,0 +1,31 @@
+//! Layouts, attributes and raw words.
+
+use crate::duo::Duo;
+use crate::formats::{any_format, length_of, vertex_bytes};
+use crate::random::Random;
+
+/// With right and wrong lengths, and attribute numbers that are none.
+pub fn vertices(duo: &mut Duo, random: &mut Random) {
+    duo.scenario("layouts and attributes");
+    for _ in 0..random.between(1, 4) {
+        let format = any_format(random);
+        duo.lay_out(&format);
+        let length = length_of(&format).unwrap_or(random.below(140) as usize);
+        let vertex = vertex_bytes(random, length);
+        for attribute in 0..21 {
+            duo.decode(&format, attribute, &vertex);
+            if random.once_in(2) {
+                duo.raw_words(&format, attribute, &vertex);
+            }
+        }
+        let other = random.word();
+        let attribute = random.pick(&[21, 22, 255, 256 + 9, 0x1_0009, u32::MAX, other]);
+        duo.decode(&format, attribute, &vertex);
+        duo.raw_words(&format, attribute, &vertex);
+        let other = random.pick(&[0, length.saturating_sub(1), length + 1, 129, length + 256]);
+        let vertex = vertex_bytes(random, other);
+        let attribute = random.below(22);
+        duo.decode(&format, attribute, &vertex);
+        duo.raw_words(&format, attribute, &vertex);
+    }
+}

@@ -1,0 +1,205 @@
+//! What is compared: thirteen functions over words and slices.
+
+use model::words::{
+    self, CommandWords, FormatWords, ReportWords, StateWords, UnitWords, ValueWords,
+};
+use model::ATTRIBUTES;
+
+/// The functions of `include/duckhammock.h`. No method has a body here, so that
+/// none is taken from one side for another.
+pub trait Side {
+    fn name(&self) -> &'static str;
+    fn fresh(&self, state: &mut StateWords);
+    fn read_register(&self, state: &StateWords, offset: u16, value: &mut u32) -> u32;
+    fn write_register(&self, state: &mut StateWords, offset: u16, value: u16) -> u32;
+    fn feed(&self, state: &mut StateWords, ring: &mut [u8], bytes: &[u8]) -> u32;
+    fn step(
+        &self,
+        state: &mut StateWords,
+        ring: &[u8],
+        xf: &mut [u32],
+        vertex: &mut [u8],
+        unit: &mut UnitWords,
+        lacking: &mut u32,
+    ) -> u32;
+    fn run(
+        &self,
+        state: &mut StateWords,
+        ring: &[u8],
+        xf: &mut [u32],
+        vertex: &mut [u8],
+        limit: u32,
+        report: &mut ReportWords,
+    ) -> u32;
+    fn lay_out(
+        &self,
+        format: &FormatWords,
+        sizes: &mut [u8; ATTRIBUTES],
+        offsets: &mut [u8; ATTRIBUTES],
+        length: &mut u32,
+    ) -> u32;
+    fn decode(
+        &self,
+        format: &FormatWords,
+        attribute: u32,
+        vertex: &[u8],
+        values: &mut ValueWords,
+    ) -> u32;
+    fn raw_words(
+        &self,
+        format: &FormatWords,
+        attribute: u32,
+        vertex: &[u8],
+        values: &mut ValueWords,
+    ) -> u32;
+    fn write_command(
+        &self,
+        command: &CommandWords,
+        words: &[u32],
+        output: &mut [u8],
+        written: &mut u32,
+    ) -> u32;
+    fn check_patch(&self, masks: &[u32], numbers: &[u32]) -> u32;
+    fn merge_patches(
+        &self,
+        a_masks: &[u32],
+        a_numbers: &[u32],
+        b_masks: &[u32],
+        b_numbers: &[u32],
+        masks: &mut [u32],
+        numbers: &mut [u32],
+    ) -> u32;
+    fn write_patch(
+        &self,
+        masks: &[u32],
+        numbers: &[u32],
+        output: &mut [u8],
+        written: &mut u32,
+    ) -> u32;
+}
+
+/// The proved library, over its C interface.
+pub struct Proved;
+
+/// The same calls over `model`.
+pub struct Twin;
+
+/// Makes a side of a module's functions.
+macro_rules! side_of {
+    ($side:ident, $functions:ident, $name:literal) => {
+        impl Side for $side {
+            fn name(&self) -> &'static str {
+                $name
+            }
+
+            fn fresh(&self, state: &mut StateWords) {
+                $functions::fresh(state)
+            }
+
+            fn read_register(&self, state: &StateWords, offset: u16, value: &mut u32) -> u32 {
+                $functions::read_register(state, offset, value)
+            }
+
+            fn write_register(&self, state: &mut StateWords, offset: u16, value: u16) -> u32 {
+                $functions::write_register(state, offset, value)
+            }
+
+            fn feed(&self, state: &mut StateWords, ring: &mut [u8], bytes: &[u8]) -> u32 {
+                $functions::feed(state, ring, bytes)
+            }
+
+            fn step(
+                &self,
+                state: &mut StateWords,
+                ring: &[u8],
+                xf: &mut [u32],
+                vertex: &mut [u8],
+                unit: &mut UnitWords,
+                lacking: &mut u32,
+            ) -> u32 {
+                $functions::step(state, ring, xf, vertex, unit, lacking)
+            }
+
+            fn run(
+                &self,
+                state: &mut StateWords,
+                ring: &[u8],
+                xf: &mut [u32],
+                vertex: &mut [u8],
+                limit: u32,
+                report: &mut ReportWords,
+            ) -> u32 {
+                $functions::run(state, ring, xf, vertex, limit, report)
+            }
+
+            fn lay_out(
+                &self,
+                format: &FormatWords,
+                sizes: &mut [u8; ATTRIBUTES],
+                offsets: &mut [u8; ATTRIBUTES],
+                length: &mut u32,
+            ) -> u32 {
+                $functions::lay_out(format, sizes, offsets, length)
+            }
+
+            fn decode(
+                &self,
+                format: &FormatWords,
+                attribute: u32,
+                vertex: &[u8],
+                values: &mut ValueWords,
+            ) -> u32 {
+                $functions::decode(format, attribute, vertex, values)
+            }
+
+            fn raw_words(
+                &self,
+                format: &FormatWords,
+                attribute: u32,
+                vertex: &[u8],
+                values: &mut ValueWords,
+            ) -> u32 {
+                $functions::raw_words(format, attribute, vertex, values)
+            }
+
+            fn write_command(
+                &self,
+                command: &CommandWords,
+                words: &[u32],
+                output: &mut [u8],
+                written: &mut u32,
+            ) -> u32 {
+                $functions::write_command(command, words, output, written)
+            }
+
+            fn check_patch(&self, masks: &[u32], numbers: &[u32]) -> u32 {
+                $functions::check_patch(masks, numbers)
+            }
+
+            fn merge_patches(
+                &self,
+                a_masks: &[u32],
+                a_numbers: &[u32],
+                b_masks: &[u32],
+                b_numbers: &[u32],
+                masks: &mut [u32],
+                numbers: &mut [u32],
+            ) -> u32 {
+                $functions::merge_patches(a_masks, a_numbers, b_masks, b_numbers, masks, numbers)
+            }
+
+            fn write_patch(
+                &self,
+                masks: &[u32],
+                numbers: &[u32],
+                output: &mut [u8],
+                written: &mut u32,
+            ) -> u32 {
+                $functions::write_patch(masks, numbers, output, written)
+            }
+        }
+    };
+}
+
+side_of!(Proved, proved, "proved");
+side_of!(Twin, words, "twin");

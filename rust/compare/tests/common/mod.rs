@@ -1,0 +1,370 @@
+//! A side that is the twin but for one fault, and the list of faults.
+
+use compare::side::{Side, Twin};
+use model::words::{
+    CommandWords, FormatWords, ReportWords, StateWords, UnitWords, ValueWords, DONE, WAITING,
+};
+use model::ATTRIBUTES;
+
+macro_rules! faults {
+    ($($fault:ident,)*) => {
+        #[derive(Clone, Copy, Debug, PartialEq, Eq)]
+        pub enum Fault {
+            $($fault,)*
+        }
+
+        pub const FAULTS: &[Fault] = &[$(Fault::$fault,)*];
+    };
+}
+
+faults! {
+    ValueZeroed,
+    UnitZeroed,
+    LayoutZeroed,
+    ValuesZeroed,
+    RawWordsZeroed,
+    WrittenZeroed,
+    PatchWrittenZeroed,
+    MergedZeroed,
+    LackingLeft,
+    LackingOneMore,
+    ReportLeft,
+    ReportOneMore,
+    ControlModulo,
+    OpenModulo,
+    OpenAnyNumber,
+    PrimitiveModulo,
+    FormatModulo,
+    LeftModulo,
+    DrawNormalisedByRefusal,
+    DrawNormalisedByWrite,
+    DrawNormalisedByFeed,
+    DrawNormalisedByEmptyRun,
+    DrawLeftStale,
+    StaleDrawTested,
+    ControlReadMasked,
+    ControlWrittenWhole,
+    MarksCleared,
+    FeedStoresReadPointer,
+    FeedMovesWhenRefused,
+    VertexRestCleared,
+    VertexCopiedByWaiting,
+    XfWordBeforeIt,
+    StatusWithoutDraw,
+    MaskResetByItself,
+    AddressWithoutIndex,
+    XfLongerAccepted,
+    LimitModulo,
+    AttributeModulo,
+    NanKept,
+    RawNanLost,
+    ShortOutputPartly,
+    ShortPatchPartly,
+    TailCleared,
+    LentWordsNotCounted,
+    KindModulo,
+    MaskRegisterLast,
+    MergeOfFirstWithin,
+    MergedNumberOfA,
+}
+
+const VERTEX: u32 = 0x01;
+const LOAD_XF: u32 = 0x10;
+const LOAD_BP: u32 = 0x61;
+const MASK_REGISTER: u32 = 0xFE;
+const NAN: u32 = 0x7FC0_0000;
+const READ_POINTER: usize = 5;
+const CONTROL: usize = 6;
+const OPEN: usize = 7;
+const MASK_WORD: usize = 71 + 0xFE;
+
+pub struct Faulty(pub Fault);
+
+fn clear_draw(state: &mut StateWords) {
+    state[OPEN + 1..=OPEN + 3].fill(0);
+}
+
+impl Faulty {
+    fn is(&self, fault: Fault) -> bool {
+        self.0 == fault
+    }
+
+    /// The state as a side would see it that counts words modulo some width.
+    fn seen(&self, state: &StateWords) -> StateWords {
+        let mut seen = *state;
+        match self.0 {
+            Fault::ControlModulo => seen[CONTROL] &= 0xFFFF,
+            Fault::OpenModulo => seen[OPEN] &= 0xFF,
+            Fault::OpenAnyNumber => seen[OPEN] = seen[OPEN].min(1),
+            Fault::PrimitiveModulo => seen[OPEN + 1] &= 0xFF,
+            Fault::FormatModulo => seen[OPEN + 2] &= 0xFF,
+            Fault::LeftModulo => seen[OPEN + 3] &= 0xFFFF,
+            Fault::StaleDrawTested if seen[OPEN] == 0 && seen[OPEN + 1] > 7 => seen[OPEN] = 2,
+            _ => {}
+        }
+        seen
+    }
+
+    /// What is wrong with the state words after a unit or after none.
+    fn spoil_state(&self, state: &mut StateWords, stale: [u32; 3], done: bool) {
+        match self.0 {
+            Fault::DrawNormalisedByRefusal if !done && state[OPEN] == 0 => clear_draw(state),
+            Fault::DrawLeftStale if done && state[OPEN] == 0 => {
+                state[OPEN + 1..=OPEN + 3].copy_from_slice(&stale);
+            }
+            Fault::MarksCleared if done => state[2..4].fill(0),
+            _ => {}
+        }
+    }
+
+    fn spoil_unit(&self, state: &mut StateWords, xf: &mut [u32], unit: &mut UnitWords) {
+        let [kind, a, b, ..] = *unit;
+        match self.0 {
+            Fault::MaskResetByItself if kind == LOAD_BP && a == MASK_REGISTER => {
+                state[MASK_WORD] = 0xFF_FFFF;
+            }
+            Fault::AddressWithoutIndex if kind & !0x18 == 0x20 => unit[4] = 0,
+            Fault::XfWordBeforeIt if kind == LOAD_XF && b != 0 => xf[b as usize - 1] ^= 1,
+            _ => {}
+        }
+    }
+}
+
+impl Side for Faulty {
+    fn name(&self) -> &'static str {
+        "faulty"
+    }
+
+    fn fresh(&self, state: &mut StateWords) {
+        Twin.fresh(state);
+    }
+
+    fn read_register(&self, state: &StateWords, offset: u16, value: &mut u32) -> u32 {
+        let answer = Twin.read_register(state, offset, value);
+        match self.0 {
+            Fault::ValueZeroed if answer != DONE => *value = 0,
+            Fault::ControlReadMasked if offset == 2 => *value &= 0xFFFF,
+            Fault::StatusWithoutDraw if offset == 0 && answer == DONE => *value |= 8,
+            _ => {}
+        }
+        answer
+    }
+
+    fn write_register(&self, state: &mut StateWords, offset: u16, value: u16) -> u32 {
+        let answer = Twin.write_register(state, offset, value);
+        match self.0 {
+            Fault::DrawNormalisedByWrite if state[OPEN] == 0 => clear_draw(state),
+            Fault::ControlWrittenWhole if offset == 2 => state[CONTROL] = value.into(),
+            _ => {}
+        }
+        answer
+    }
+
+    fn feed(&self, state: &mut StateWords, ring: &mut [u8], bytes: &[u8]) -> u32 {
+        let before = state[READ_POINTER - 1];
+        let answer = Twin.feed(state, ring, bytes);
+        match self.0 {
+            Fault::DrawNormalisedByFeed if state[OPEN] == 0 => clear_draw(state),
+            Fault::FeedStoresReadPointer if answer == DONE => state[READ_POINTER] = before,
+            Fault::FeedMovesWhenRefused if answer == 11 => state[READ_POINTER - 1] += 1,
+            _ => {}
+        }
+        answer
+    }
+
+    fn step(
+        &self,
+        state: &mut StateWords,
+        ring: &[u8],
+        mut xf: &mut [u32],
+        vertex: &mut [u8],
+        unit: &mut UnitWords,
+        lacking: &mut u32,
+    ) -> u32 {
+        if self.is(Fault::XfLongerAccepted) && xf.len() > 4184 {
+            xf = &mut xf[..4184];
+        }
+        let (was, stale) = (*lacking, [state[8], state[9], state[10]]);
+        let mut seen = self.seen(state);
+        let answer = Twin.step(&mut seen, ring, xf, vertex, unit, lacking);
+        if answer == DONE {
+            *state = seen;
+            self.spoil_unit(state, xf, unit);
+        }
+        self.spoil_state(state, stale, answer == DONE);
+        match self.0 {
+            Fault::UnitZeroed if answer != DONE => *unit = [0; 6],
+            Fault::LackingLeft if answer != WAITING => *lacking = was,
+            Fault::LackingOneMore if answer == WAITING => *lacking += 1,
+            Fault::VertexRestCleared if answer == DONE && unit[0] == VERTEX => {
+                vertex[unit[5] as usize..].fill(0);
+            }
+            Fault::VertexCopiedByWaiting if answer == WAITING => vertex[0] ^= 1,
+            _ => {}
+        }
+        answer
+    }
+
+    fn run(
+        &self,
+        state: &mut StateWords,
+        ring: &[u8],
+        xf: &mut [u32],
+        vertex: &mut [u8],
+        limit: u32,
+        report: &mut ReportWords,
+    ) -> u32 {
+        let was = *report;
+        let limit = if self.is(Fault::LimitModulo) {
+            limit & 0xFFFF
+        } else {
+            limit
+        };
+        let mut seen = self.seen(state);
+        let answer = Twin.run(&mut seen, ring, xf, vertex, limit, report);
+        if report[0] != 0 {
+            *state = seen;
+        }
+        match self.0 {
+            Fault::ReportLeft if answer != DONE && answer != WAITING => *report = was,
+            Fault::ReportOneMore if answer == 8 => report[0] += 1,
+            Fault::DrawNormalisedByEmptyRun if report[0] == 0 && state[OPEN] == 0 => {
+                clear_draw(state);
+            }
+            _ => {}
+        }
+        answer
+    }
+
+    fn lay_out(
+        &self,
+        format: &FormatWords,
+        sizes: &mut [u8; ATTRIBUTES],
+        offsets: &mut [u8; ATTRIBUTES],
+        length: &mut u32,
+    ) -> u32 {
+        let answer = Twin.lay_out(format, sizes, offsets, length);
+        if self.is(Fault::LayoutZeroed) && answer != DONE {
+            *length = 0;
+        }
+        answer
+    }
+
+    fn decode(
+        &self,
+        format: &FormatWords,
+        attribute: u32,
+        vertex: &[u8],
+        values: &mut ValueWords,
+    ) -> u32 {
+        let attribute = match self.0 {
+            Fault::AttributeModulo => attribute & 0xFF,
+            _ => attribute,
+        };
+        let answer = Twin.decode(format, attribute, vertex, values);
+        if self.is(Fault::ValuesZeroed) && answer != DONE {
+            *values = [0; 10];
+        }
+        if self.is(Fault::NanKept) && answer == DONE && (5..=8).contains(&values[0]) {
+            let mut raw = [0; 10];
+            Twin.raw_words(format, attribute, vertex, &mut raw);
+            if values[1] == NAN && raw[0] != 0 {
+                values[1] = raw[1];
+            }
+        }
+        answer
+    }
+
+    fn raw_words(
+        &self,
+        format: &FormatWords,
+        attribute: u32,
+        vertex: &[u8],
+        values: &mut ValueWords,
+    ) -> u32 {
+        let answer = Twin.raw_words(format, attribute, vertex, values);
+        if self.is(Fault::RawWordsZeroed) && answer != DONE {
+            *values = [0; 10];
+        }
+        if self.is(Fault::RawNanLost) && answer == DONE && f32::from_bits(values[1]).is_nan() {
+            values[1] = NAN;
+        }
+        answer
+    }
+
+    fn write_command(
+        &self,
+        command: &CommandWords,
+        words: &[u32],
+        output: &mut [u8],
+        written: &mut u32,
+    ) -> u32 {
+        let mut command = *command;
+        if self.is(Fault::KindModulo) {
+            command[0] &= 0xFF;
+        }
+        let mut lent = words;
+        if self.is(Fault::LentWordsNotCounted) && command[0] == LOAD_XF {
+            lent = words.get(..command[1] as usize).unwrap_or(words);
+        }
+        let answer = Twin.write_command(&command, lent, output, written);
+        match self.0 {
+            Fault::WrittenZeroed if answer != DONE => *written = 0,
+            Fault::ShortOutputPartly if answer == 16 && !output.is_empty() => {
+                output[0] = command[0] as u8;
+            }
+            Fault::TailCleared if answer == DONE => output[*written as usize..].fill(0),
+            _ => {}
+        }
+        answer
+    }
+
+    fn check_patch(&self, masks: &[u32], numbers: &[u32]) -> u32 {
+        let answer = Twin.check_patch(masks, numbers);
+        if self.is(Fault::MaskRegisterLast) && answer == 13 && masks[0xFE] > 0xFF_FFFF {
+            return 14;
+        }
+        answer
+    }
+
+    fn merge_patches(
+        &self,
+        a_masks: &[u32],
+        a_numbers: &[u32],
+        b_masks: &[u32],
+        b_numbers: &[u32],
+        masks: &mut [u32],
+        numbers: &mut [u32],
+    ) -> u32 {
+        let answer = Twin.merge_patches(a_masks, a_numbers, b_masks, b_numbers, masks, numbers);
+        match self.0 {
+            Fault::MergedZeroed if answer != DONE => numbers.fill(0),
+            Fault::MergeOfFirstWithin if answer != DONE && answer != 12 => {
+                masks.copy_from_slice(a_masks);
+            }
+            Fault::MergedNumberOfA if answer == DONE => {
+                for at in 0..256 {
+                    numbers[at] = a_numbers[at] | b_numbers[at] & !a_masks[at];
+                }
+            }
+            _ => {}
+        }
+        answer
+    }
+
+    fn write_patch(
+        &self,
+        masks: &[u32],
+        numbers: &[u32],
+        output: &mut [u8],
+        written: &mut u32,
+    ) -> u32 {
+        let answer = Twin.write_patch(masks, numbers, output, written);
+        match self.0 {
+            Fault::PatchWrittenZeroed if answer != DONE => *written = 0,
+            Fault::ShortPatchPartly if answer == 16 && !output.is_empty() => output[0] ^= 1,
+            _ => {}
+        }
+        answer
+    }
+}

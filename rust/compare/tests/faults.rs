@@ -1,0 +1,142 @@
+//! The comparison finds what it is there to find: each of a list of faults in
+//! one side, and a call that leaves what no call may leave on both sides.
+#![forbid(unsafe_code)]
+
+mod common;
+
+use common::{Faulty, FAULTS};
+use compare::duo::Duo;
+use compare::random::Random;
+use compare::scenarios;
+use compare::side::Twin;
+
+const SEED: u64 = 1;
+const CALLS: u64 = 300_000;
+
+#[test]
+fn no_fault_no_difference() {
+    let mut duo = Duo::new(Box::new(Twin), Box::new(Twin));
+    scenarios::compare(&mut duo, SEED, CALLS);
+    assert_eq!(duo.fault(), None);
+    assert!(duo.tally.calls >= CALLS);
+    assert_eq!(duo.tally.unreached(), Vec::<String>::new());
+}
+
+/// What chance alone gives reaches every answer of every call.
+#[test]
+fn chance_reaches_every_answer() {
+    let mut duo = Duo::new(Box::new(Twin), Box::new(Twin));
+    let mut random = Random::new(SEED);
+    while duo.tally.calls < CALLS {
+        scenarios::by_chance(&mut duo, &mut random);
+    }
+    assert_eq!(duo.tally.unreached(), Vec::<String>::new());
+}
+
+/// With the fixed part, as the program runs.
+#[test]
+fn every_fault_is_found() {
+    for &fault in FAULTS {
+        let mut duo = Duo::new(Box::new(Faulty(fault)), Box::new(Twin));
+        scenarios::compare(&mut duo, SEED, CALLS);
+        assert!(duo.fault().is_some(), "{fault:?} was not found");
+    }
+}
+
+/// Without the fixed part: what chance alone gives is enough too.
+#[test]
+fn every_fault_is_found_by_chance() {
+    for &fault in FAULTS {
+        let mut duo = Duo::new(Box::new(Faulty(fault)), Box::new(Twin));
+        let mut random = Random::new(SEED);
+        while duo.tally.calls < CALLS && duo.fault().is_none() {
+            scenarios::by_chance(&mut duo, &mut random);
+        }
+        assert!(duo.fault().is_some(), "{fault:?} was not found");
+    }
+}
+
+/// The same on either side.
+#[test]
+fn every_fault_is_found_on_the_other_side() {
+    for &fault in FAULTS {
+        let mut duo = Duo::new(Box::new(Twin), Box::new(Faulty(fault)));
+        scenarios::compare(&mut duo, SEED, CALLS);
+        assert!(duo.fault().is_some(), "{fault:?} was not found");
+    }
+}
+
+/// Where both sides have the same fault, those are found that the header rules
+/// out whatever the rules are: a refused call that changes something, a call
+/// that changes what it must not.
+#[test]
+fn a_fault_of_both_sides() {
+    use common::Fault::*;
+    for fault in [
+        ValueZeroed,
+        UnitZeroed,
+        LayoutZeroed,
+        ValuesZeroed,
+        RawWordsZeroed,
+        WrittenZeroed,
+        PatchWrittenZeroed,
+        MergedZeroed,
+        LackingLeft,
+        DrawNormalisedByRefusal,
+        DrawNormalisedByWrite,
+        DrawNormalisedByFeed,
+        DrawNormalisedByEmptyRun,
+        FeedStoresReadPointer,
+        FeedMovesWhenRefused,
+        VertexCopiedByWaiting,
+        ShortOutputPartly,
+        ShortPatchPartly,
+        TailCleared,
+        MergeOfFirstWithin,
+    ] {
+        let mut duo = Duo::new(Box::new(Faulty(fault)), Box::new(Faulty(fault)));
+        scenarios::compare(&mut duo, SEED, CALLS);
+        assert!(duo.fault().is_some(), "{fault:?} was not found");
+    }
+}
+
+/// A difference tells the call, its arguments, what differs and both values;
+/// nothing is called after it.
+#[test]
+fn a_difference_is_told() {
+    let mut duo = Duo::new(Box::new(Faulty(common::Fault::ValueZeroed)), Box::new(Twin));
+    scenarios::compare(&mut duo, SEED, CALLS);
+    let told = duo.fault().expect("a difference").to_string();
+    let calls = duo.tally.calls;
+    assert!(told.starts_with(&format!(
+        "call {calls}, in \"every refusal\", read_register:"
+    )));
+    for part in [
+        "offset [",
+        "state ",
+        "differs first: value, place 0",
+        "faulty: 0",
+    ] {
+        assert!(told.contains(part), "{part} in {told}");
+    }
+    duo.step();
+    assert_eq!(duo.tally.calls, calls);
+    assert_eq!(duo.fault(), Some(&told[..]));
+}
+
+#[test]
+fn a_seed_gives_the_same_calls() {
+    let fault = |seed| {
+        let mut duo = Duo::new(
+            Box::new(Faulty(common::Fault::DrawLeftStale)),
+            Box::new(Twin),
+        );
+        let mut random = Random::new(seed);
+        while duo.fault().is_none() {
+            scenarios::by_chance(&mut duo, &mut random);
+        }
+        duo.fault().map(str::to_string)
+    };
+    assert_eq!(fault(5), fault(5));
+    assert_ne!(fault(5), fault(6));
+}

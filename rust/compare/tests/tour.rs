@@ -1,0 +1,801 @@
+//! Every call, accepted and refused, of the proved library and of the twin. The
+//! answers that are expected come from document 01 and `include/duckhammock.h`.
+//! That a refused call changes nothing is seen after every call (`Duo`).
+#![forbid(unsafe_code)]
+
+use compare::call::Patch;
+use compare::duo::Duo;
+use compare::side::{Proved, Twin};
+use compare::world::{word, Lent, USUAL};
+use model::words::{CommandWords, FormatWords, UnitWords, DONE, WAITING};
+
+/// Both sides, held to what is expected.
+struct Tour(Duo);
+
+impl Tour {
+    fn new() -> Tour {
+        Tour(Duo::new(Box::new(Proved), Box::new(Twin)))
+    }
+
+    /// The two sides did the same.
+    fn same(&self) {
+        if let Some(fault) = self.0.fault() {
+            panic!("{fault}");
+        }
+    }
+
+    #[track_caller]
+    fn reads(&mut self, offset: u16, value: u32) {
+        let told = self.0.read(offset);
+        self.same();
+        assert_eq!(told, (DONE, value), "read of {offset:03X}");
+    }
+
+    #[track_caller]
+    fn read_refused(&mut self, offset: u16, refusal: u32) {
+        let (answer, _) = self.0.read(offset);
+        self.same();
+        assert_eq!(answer, refusal, "read of {offset:03X}");
+    }
+
+    #[track_caller]
+    fn writes(&mut self, offset: u16, value: u16, answer: u32) {
+        let told = self.0.write(offset, value);
+        self.same();
+        assert_eq!(told, answer, "write to {offset:03X}");
+    }
+
+    #[track_caller]
+    fn feeds(&mut self, bytes: &[u8], answer: u32) {
+        let told = self.0.feed(bytes);
+        self.same();
+        assert_eq!(told, answer);
+    }
+
+    #[track_caller]
+    fn steps(&mut self, unit: UnitWords) {
+        let told = self.0.step();
+        self.same();
+        assert_eq!(told, (DONE, unit, 0));
+    }
+
+    #[track_caller]
+    fn waits(&mut self, bytes: u32) {
+        let (answer, _, lacking) = self.0.step();
+        self.same();
+        assert_eq!((answer, lacking), (WAITING, bytes));
+    }
+
+    #[track_caller]
+    fn step_refused(&mut self, refusal: u32) {
+        let (answer, _, lacking) = self.0.step();
+        self.same();
+        assert_eq!((answer, lacking), (refusal, 0));
+    }
+
+    #[track_caller]
+    fn runs(&mut self, limit: u32, answer: u32, report: [u32; 2]) {
+        let told = self.0.run(limit);
+        self.same();
+        assert_eq!(told, (answer, report));
+    }
+
+    #[track_caller]
+    fn lays_out(&mut self, format: &FormatWords, parts: &[(usize, u8, u8)], length: u32) {
+        let laid = self.0.lay_out(format);
+        self.same();
+        assert_eq!((laid.answer, laid.length), (DONE, length));
+        let mut before = 0;
+        for attribute in 0..21 {
+            let part = parts.iter().find(|part| part.0 == attribute);
+            let size = part.map_or(0, |part| part.1);
+            assert_eq!(laid.sizes[attribute], size, "bytes of {attribute}");
+            assert_eq!(laid.offsets[attribute], before, "sum before {attribute}");
+            assert_eq!(part.map_or(before, |part| part.2), before);
+            before += size;
+        }
+    }
+
+    #[track_caller]
+    fn decodes(&mut self, format: &FormatWords, attribute: u32, vertex: &[u8], values: &[u32]) {
+        let (answer, told) = self.0.decode(format, attribute, vertex);
+        self.same();
+        assert_eq!((answer, &told[..]), (DONE, &ten(values)[..]));
+    }
+
+    #[track_caller]
+    fn raw(&mut self, format: &FormatWords, attribute: u32, vertex: &[u8], values: &[u32]) {
+        let (answer, told) = self.0.raw_words(format, attribute, vertex);
+        self.same();
+        assert_eq!((answer, &told[..]), (DONE, &ten(values)[..]));
+    }
+
+    /// Both of them give the refusal.
+    #[track_caller]
+    fn not_decoded(&mut self, format: &FormatWords, attribute: u32, vertex: &[u8], refusal: u32) {
+        let (decoded, _) = self.0.decode(format, attribute, vertex);
+        let (raw, _) = self.0.raw_words(format, attribute, vertex);
+        self.same();
+        assert_eq!((decoded, raw), (refusal, refusal));
+    }
+
+    #[track_caller]
+    fn command(&mut self, command: CommandWords, words: &[u32], output: usize, bytes: &[u8]) {
+        let told = self.0.write_command(command, words, output);
+        self.same();
+        assert_eq!(told, (DONE, bytes.to_vec()));
+    }
+
+    #[track_caller]
+    fn command_refused(
+        &mut self,
+        command: CommandWords,
+        words: &[u32],
+        output: usize,
+        refusal: u32,
+    ) {
+        let (answer, _) = self.0.write_command(command, words, output);
+        self.same();
+        assert_eq!(answer, refusal, "{command:X?}");
+    }
+
+    #[track_caller]
+    fn patch(&mut self, patch: &Patch, output: usize, bytes: &[u8]) {
+        let told = self.0.write_patch(patch, output);
+        self.same();
+        assert_eq!(told, (DONE, bytes.to_vec()));
+    }
+
+    /// Checked, merged on either side and written: all give the refusal.
+    #[track_caller]
+    fn patch_refused(&mut self, patch: &Patch, refusal: u32) {
+        let good = Patch::empty();
+        let duo = &mut self.0;
+        let answers = [
+            duo.check_patch(patch),
+            duo.merge_patches(patch, &good, 256, 256).0,
+            duo.merge_patches(&good, patch, 256, 256).0,
+            duo.write_patch(patch, 2550).0,
+        ];
+        self.same();
+        assert_eq!(answers, [refusal; 4]);
+    }
+
+    #[track_caller]
+    fn holds(&self, index: usize, value: u32) {
+        assert_eq!(self.0.world().state[index], value, "state word {index}");
+    }
+
+    #[track_caller]
+    fn holds_draw(&self, draw: [u32; 4]) {
+        assert_eq!(self.0.world().state[word::DRAW_OPEN..=word::LEFT], draw);
+    }
+}
+
+/// A kind or a count with its values, 0 where unused.
+fn ten(values: &[u32]) -> [u32; 10] {
+    let mut ten = [0; 10];
+    ten[..values.len()].copy_from_slice(values);
+    ten
+}
+
+#[test]
+fn every_call_is_answered_as_the_papers_say() {
+    let mut tour = Tour::new();
+    fresh_state(&mut tour);
+    hardware_registers(&mut tour);
+    refused_registers(&mut tour);
+    loads_of_arrays(&mut tour);
+    stream(&mut tour);
+    whole_rings(&mut tour);
+    draw(&mut tour);
+    most_units(&mut tour);
+    indexed_loads(&mut tour);
+    refused_units(&mut tour);
+    refused_benches(&mut tour);
+    refused_lengths(&mut tour);
+    wide_words(&mut tour);
+    stale_words(&mut tour);
+    layouts(&mut tour);
+    attributes(&mut tour);
+    normals(&mut tour);
+    refused_vertices(&mut tour);
+    commands(&mut tour);
+    refused_commands(&mut tour);
+    patches(&mut tour);
+    patches_fed(&mut tour);
+    refused_patches(&mut tour);
+    assert_eq!(tour.0.tally.unreached(), Vec::<String>::new());
+}
+
+/// "Fresh state: control 0010 (hex), BP register FE holding FFFFFF, every other
+/// register zero, no draw open."
+fn fresh_state(tour: &mut Tour) {
+    for index in 0..327 {
+        tour.0.poke(index, 0xDEAD_BEEF);
+    }
+    tour.0.fresh();
+    tour.same();
+    for index in 0..327 {
+        let expected = match index {
+            word::CONTROL => 0x0010,
+            325 => 0xFF_FFFF,
+            _ => 0,
+        };
+        tour.holds(index, expected);
+    }
+}
+
+fn hardware_registers(tour: &mut Tour) {
+    // A window of no bytes breaks the rules.
+    tour.read_refused(0x000, 1);
+    tour.read_refused(0x030, 1);
+    for (offset, value) in [
+        (0x020, 0x1000),
+        (0x022, 0),
+        (0x024, 0x1100),
+        (0x028, 0x80),
+        (0x02C, 0x40),
+        (0x034, 0x10FE),
+        (0x038, 0x10FE),
+        (0x002, 0xFFC1),
+        (0x004, 7),
+    ] {
+        tour.writes(offset, value, DONE);
+    }
+    // Bit 2, the pointers are equal, and bit 3, no draw is open.
+    tour.reads(0x000, 0b1100);
+    for (offset, value) in [
+        (0x002, 1),
+        (0x020, 0x1000),
+        (0x022, 0),
+        (0x024, 0x1100),
+        (0x026, 0),
+        (0x028, 0x80),
+        (0x02C, 0x40),
+        (0x030, 0),
+        (0x032, 0),
+        (0x034, 0x10FE),
+        (0x038, 0x10FE),
+        (0x03A, 0),
+    ] {
+        tour.reads(offset, value);
+    }
+}
+
+/// Not to be read, odd, not listed; not to be written.
+fn refused_registers(tour: &mut Tour) {
+    for offset in [0x004, 0x021, 0x006, 0x00E, 0x03C, 0x103A] {
+        tour.read_refused(offset, 17);
+    }
+    for offset in [0x000, 0x030, 0x032, 0x040, 0x021] {
+        tour.writes(offset, 1, 17);
+    }
+}
+
+fn loads_of_arrays(tour: &mut Tour) {
+    tour.waits(1);
+    // A CP load that wraps, in two feeds: base 12 becomes 1000.
+    tour.feeds(&[0x08, 0xAC, 0x00], DONE);
+    tour.reads(0x030, 3);
+    tour.waits(3);
+    tour.feeds(&[0x00, 0x10, 0x00], DONE);
+    tour.steps([0x08, 0xAC, 0x1000, 0, 0, 6]);
+    tour.holds(word::BASES + 12, 0x1000);
+    tour.holds(word::READ, 0x1004);
+    tour.feeds(
+        &[0x08, 0xBC, 0, 0, 0, 0x40, 0x20, 0x00, 0x03, 0xB0, 0x00],
+        DONE,
+    );
+    tour.runs(1, DONE, [1, 0]);
+    tour.holds(word::STRIDES + 12, 0x40);
+    // "20 00 03 B0 00 with base 1000, stride 40 (hex) reports 10C0, 12 words".
+    tour.steps([0x20, 3, 12, 0, 0x10C0, 5]);
+}
+
+fn stream(tour: &mut Tour) {
+    tour.feeds(
+        &[0x10, 0x00, 0xF1, 0x10, 0x00, 1, 2, 3, 4, 5, 6, 7, 8],
+        DONE,
+    );
+    tour.feeds(&[0x61, 0xFE, 0, 0, 0x0F, 0x61, 0x41, 0, 0, 0xA5], DONE);
+    tour.feeds(
+        &[0x40, 0, 0, 0x20, 0, 0, 0, 1, 0, 0x00, 0x48, 0x68, 0x61],
+        DONE,
+    );
+    tour.runs(0, DONE, [0, 0]);
+    let mut xf = tour.0.world().xf.clone();
+    tour.steps([0x10, 2, 0x1000, 0, 0, 13]);
+    xf[0x1000..0x1002].copy_from_slice(&[0x0102_0304, 0x0506_0708]);
+    assert!(tour.0.world().xf == xf);
+    tour.runs(2, DONE, [2, 0]);
+    tour.holds(word::BP + 0x41, 0x05);
+    tour.holds(word::BP + 0xFE, 0xFF_FFFF);
+    tour.steps([0x40, 0x2000, 0x100, 0, 0, 9]);
+    tour.steps([0x00, 0, 0, 0, 0, 1]);
+    tour.steps([0x48, 0, 0, 0, 0, 1]);
+    tour.steps([0x68, 0, 0, 0, 0, 1]);
+    tour.runs(65_535, WAITING, [0, 4]);
+    tour.feeds(&[0x41, 1, 2, 3], DONE);
+    tour.runs(9, WAITING, [1, 1]);
+    tour.holds(word::BP + 0x41, 0x01_0203);
+}
+
+/// "255 bytes fill a ring of 256, the 256th gives 11."
+fn whole_rings(tour: &mut Tour) {
+    tour.feeds(&[0x48; 256], 11);
+    tour.feeds(&[0x48; 255], DONE);
+    tour.feeds(&[0x48], 11);
+    tour.feeds(&[], DONE);
+    tour.reads(0x030, 255);
+    tour.reads(0x000, 0b1000);
+    tour.runs(255, DONE, [255, 0]);
+    tour.feeds(&[0x48; 3], DONE);
+    // A limit above 65,535 counts as that.
+    tour.runs(0x1_0000, WAITING, [3, 1]);
+}
+
+/// "a limit of units (0 to 65,535)"; more counts as 65,535.
+fn most_units(tour: &mut Tour) {
+    for limit in [65_535, 65_536, u32::MAX] {
+        bench(tour);
+        tour.0.hold(Lent {
+            ring: 65_536,
+            ..USUAL
+        });
+        tour.0.poke(word::END, 0x1_1000);
+        tour.feeds(&[0x48; 65_536], 11);
+        tour.feeds(&[0x48; 65_535], DONE);
+        tour.runs(limit, DONE, [65_535, 0]);
+        tour.runs(limit, WAITING, [0, 1]);
+    }
+}
+
+fn draw(tour: &mut Tour) {
+    // Position and colour, 16 bytes; format 3.
+    tour.feeds(
+        &[0x08, 0x50, 0, 0, 0x22, 0, 0x08, 0x73, 0, 1, 0x40, 0x09],
+        DONE,
+    );
+    tour.feeds(&[0x93, 0, 3], DONE);
+    tour.runs(2, DONE, [2, 0]);
+    tour.steps([0x80, 2, 3, 3, 0, 3]);
+    tour.holds_draw([1, 2, 3, 3]);
+    tour.reads(0x000, 0b0100);
+    tour.waits(16);
+    let vertex: Vec<u8> = (1..=16).collect();
+    let mut buffer = tour.0.world().vertex.clone();
+    tour.feeds(&vertex, DONE);
+    tour.steps([0x01, 0, 0, 0, 0, 16]);
+    buffer[..16].copy_from_slice(&vertex);
+    assert_eq!(tour.0.world().vertex, buffer);
+    tour.feeds(&vertex[..15], DONE);
+    tour.waits(1);
+    tour.feeds(&[0xFF], DONE);
+    tour.steps([0x01, 0, 0, 0, 0, 16]);
+    buffer[15] = 0xFF;
+    assert_eq!(tour.0.world().vertex, buffer);
+    tour.holds_draw([1, 2, 3, 1]);
+    tour.feeds(&vertex, DONE);
+    tour.runs(2, WAITING, [1, 1]);
+    tour.holds_draw([0; 4]);
+    tour.reads(0x000, 0b1100);
+    // No vertex: no draw is open after it.
+    tour.feeds(&[0x93, 0, 0], DONE);
+    tour.steps([0x80, 2, 3, 0, 0, 3]);
+    tour.holds_draw([0; 4]);
+}
+
+/// "Bits 3 and 4 pick array 12 to 15."
+fn indexed_loads(tour: &mut Tour) {
+    bench(tour);
+    for (array, kind) in [(13, 0x28), (14, 0x30), (15, 0x38)] {
+        tour.0.poke(word::BASES + array, 0x100 * array as u32);
+        tour.0.poke(word::STRIDES + array, array as u32);
+        tour.feeds(&[kind, 0x00, 0x10, 0x0A, 0xBC], DONE);
+        let address = 0x100 * array as u32 + 0x10 * array as u32;
+        tour.steps([kind.into(), 0x10, 1, 0xABC, address, 5]);
+    }
+}
+
+/// An empty ring that reads, and position and colour in format 3.
+fn bench(tour: &mut Tour) {
+    tour.0.fresh();
+    tour.0.hold(USUAL);
+    for (index, value) in [
+        (word::START, 0x1000),
+        (word::END, 0x1100),
+        (word::WRITE, 0x1080),
+        (word::READ, 0x1080),
+        (word::CONTROL, 1),
+        (word::VCD_0, 0x2200),
+        (word::VAT + 9, 0x14009),
+    ] {
+        tour.0.poke(index, value);
+    }
+}
+
+/// Refused at the deciding byte and not before it.
+fn refused_units(tour: &mut Tour) {
+    let cases: [(&[u8], u32); 5] = [
+        (&[0x01], 6),
+        (&[0x08, 0x21], 7),
+        (&[0x10, 0, 1, 0x10, 0x57], 8),
+        (&[0x90], 9),
+        (&[0x91], 10),
+    ];
+    for (unit, refusal) in cases {
+        bench(tour);
+        // Without a position 9, and 10 for format 1's colour.
+        if refusal == 9 {
+            tour.0.poke(word::VCD_0, 0x2000);
+        }
+        tour.0.poke(word::VAT + 3, 0x1C000);
+        for &byte in &unit[..unit.len() - 1] {
+            tour.feeds(&[byte], DONE);
+            let (answer, _, _) = tour.0.step();
+            assert_eq!(answer, WAITING);
+        }
+        tour.feeds(&unit[unit.len() - 1..], DONE);
+        tour.step_refused(refusal);
+        tour.runs(5, refusal, [0, 0]);
+        tour.runs(0, DONE, [0, 0]);
+    }
+}
+
+/// What a bench that 1, 4 or 5 refuses answers: step and run, feed, count.
+fn refused_benches(tour: &mut Tour) {
+    for (index, value, refusal, window) in [
+        (word::END, 0x1101, 1, false),
+        (word::WRITE, 0x1100, 1, false),
+        (word::READ, 0x0FFF, 1, false),
+        (word::START, 0x1010, 1, false),
+        (word::BP, 0x0100_0000, 1, true),
+        (word::BASES, 0x0400_0000, 1, true),
+        (word::STRIDES, 0x100, 1, true),
+        (word::CONTROL, 0x41, 1, true),
+        (word::CONTROL, 0, 4, true),
+        (word::CONTROL, 0x11, 5, true),
+    ] {
+        bench(tour);
+        tour.0.poke(index, value);
+        tour.step_refused(refusal);
+        tour.runs(0, refusal, [0, 0]);
+        tour.runs(1, refusal, [0, 0]);
+        if window {
+            tour.feeds(&[0x00], DONE);
+            tour.reads(0x030, 1);
+        } else {
+            tour.feeds(&[0x00], 1);
+            tour.read_refused(0x030, 1);
+        }
+    }
+}
+
+/// 1, 2 and 3 of what is lent; a longer vertex buffer is good.
+fn refused_lengths(tour: &mut Tour) {
+    for (ring, xf, vertex, fed, refusal) in [
+        (255, 4184, 129, 1, 1),
+        (257, 4184, 129, 1, 1),
+        (0, 4184, 129, 1, 1),
+        (256, 4183, 129, DONE, 2),
+        (256, 4185, 129, DONE, 2),
+        (256, 0, 128, DONE, 2),
+        (256, 4184, 128, DONE, 3),
+        (256, 4184, 0, DONE, 3),
+    ] {
+        bench(tour);
+        tour.0.lend(ring, xf, vertex);
+        tour.feeds(&[0x00], fed);
+        tour.step_refused(refusal);
+        tour.runs(1, refusal, [0, 0]);
+    }
+    bench(tour);
+    tour.0.lend(256, 4184, 300);
+    tour.feeds(&[0x00], DONE);
+    tour.steps([0x00, 0, 0, 0, 0, 1]);
+}
+
+/// "A word that its field cannot hold is refused by 1" (the header).
+fn wide_words(tour: &mut Tour) {
+    for words in [
+        [9, 2, 3, 1],
+        [0x101, 2, 3, 1],
+        [1, 0x102, 3, 1],
+        [1, 2, 0x103, 1],
+        [1, 2, 3, 0x1_0001],
+        [1, 2, 3, 0x1_0000],
+        [1, 2, 3, 0],
+        [1, 8, 3, 1],
+        [1, 2, 8, 1],
+    ] {
+        bench(tour);
+        for (at, value) in words.into_iter().enumerate() {
+            tour.0.poke(word::DRAW_OPEN + at, value);
+        }
+        tour.step_refused(1);
+        tour.runs(1, 1, [0, 0]);
+        // Calls that do not test them leave them as they are.
+        tour.feeds(&[0x00], DONE);
+        tour.writes(0x028, 5, DONE);
+        tour.reads(0x000, 0b0000);
+        tour.holds_draw(words);
+    }
+    bench(tour);
+    tour.0.poke(word::CONTROL, 0x1_0001);
+    tour.step_refused(1);
+    tour.reads(0x002, 0x1_0001);
+    tour.writes(0x02C, 5, DONE);
+    tour.holds(word::CONTROL, 0x1_0001);
+    tour.writes(0x002, 0xFFFF, DONE);
+    tour.holds(word::CONTROL, 0x3F);
+    bench(tour);
+    for (at, value) in [1, 2, 3, 1].into_iter().enumerate() {
+        tour.0.poke(word::DRAW_OPEN + at, value);
+    }
+    tour.waits(16);
+}
+
+/// "While no draw is open, words 8 to 10 are not looked at; a step or a run that
+/// does a unit leaves them 0" (the header).
+fn stale_words(tour: &mut Tour) {
+    bench(tour);
+    let stale = [0, 0x1_0008, 0xFFFF_FFFF, 0];
+    for (at, value) in stale.into_iter().enumerate() {
+        tour.0.poke(word::DRAW_OPEN + at, value);
+    }
+    tour.waits(1);
+    tour.runs(1, WAITING, [0, 1]);
+    tour.runs(0, DONE, [0, 0]);
+    tour.reads(0x000, 0b1100);
+    tour.holds_draw(stale);
+    tour.feeds(&[0x00], DONE);
+    tour.holds_draw(stale);
+    tour.steps([0x00, 0, 0, 0, 0, 1]);
+    tour.holds_draw([0; 4]);
+    // Bytes that stand in the ring are units as well as fed ones.
+    tour.0.poke_ring(0x81, &[0x61, 0x10, 0x12, 0x34, 0x56]);
+    tour.0.poke(word::WRITE, 0x1086);
+    tour.steps([0x61, 0x10, 0x12_3456, 0, 0, 5]);
+}
+
+/// 26 bytes: a matrix, a position of f32, a normal of s16, a colour, a texture
+/// of u8 with shift 3, an index.
+const MIXED: FormatWords = [0x2A01, 0x09, 0x4621_4C09, 0, 0];
+/// 38 bytes: a position of u8, a normal of nine f32.
+const NINE: FormatWords = [0xA00, 0, 0x1200, 0, 0];
+/// 8 bytes: a position of u8, a normal of three 16-bit indices.
+const INDICES: FormatWords = [0x1A00, 0, 0x8000_0200, 0, 0];
+/// No position.
+const ABSENT: FormatWords = [0x2000, 0, 0x4621_4C09, 0, 0];
+/// Colour format 7.
+const UNKNOWN: FormatWords = [0x2A01, 0x09, 0x1C000, 0, 0];
+
+fn layouts(tour: &mut Tour) {
+    let mixed = [
+        (0, 1, 0),
+        (9, 12, 1),
+        (10, 6, 13),
+        (11, 4, 19),
+        (13, 2, 23),
+        (14, 1, 25),
+    ];
+    tour.lays_out(&MIXED, &mixed, 26);
+    tour.lays_out(&NINE, &[(9, 2, 0), (10, 36, 2)], 38);
+    tour.lays_out(&INDICES, &[(9, 2, 0), (10, 6, 2)], 8);
+    assert_eq!(tour.0.lay_out(&ABSENT).answer, 9);
+    assert_eq!(tour.0.lay_out(&UNKNOWN).answer, 10);
+    tour.same();
+}
+
+/// A vertex of the mixed format.
+const VERTEX: [u8; 26] = [
+    // The matrix; a NaN, minus zero and one.
+    0x2A, 0x7F, 0x80, 0, 1, 0x80, 0, 0, 0, 0x3F, 0x80, 0, 0, //
+    // -1, -32,768 and 3; the colour; 8, 255; the index.
+    0xFF, 0xFF, 0x80, 0, 0, 3, 0xDE, 0xAD, 0xBE, 0xEF, 8, 0xFF, 0x17,
+];
+
+fn attributes(tour: &mut Tour) {
+    tour.decodes(&MIXED, 0, &VERTEX, &[1, 0x2A]);
+    tour.decodes(&MIXED, 1, &VERTEX, &[0]);
+    let position = [5, 0x7FC0_0000, 0x8000_0000, 0x3F80_0000];
+    tour.decodes(&MIXED, 9, &VERTEX, &position);
+    let normal = [7, 0xBF80_0000, 0xC700_0000, 0x4040_0000];
+    tour.decodes(&MIXED, 10, &VERTEX, &normal);
+    tour.decodes(&MIXED, 11, &VERTEX, &[4, 0xDEAD_BEEF]);
+    // 8 / 2^3 and 255 / 2^3.
+    tour.decodes(&MIXED, 13, &VERTEX, &[6, 0x3F80_0000, 0x41FF_0000]);
+    tour.decodes(&MIXED, 14, &VERTEX, &[2, 0x17]);
+    tour.decodes(&MIXED, 20, &VERTEX, &[0]);
+    tour.raw(
+        &MIXED,
+        9,
+        &VERTEX,
+        &[3, 0x7F80_0001, 0x8000_0000, 0x3F80_0000],
+    );
+    for attribute in [0, 1, 10, 11, 13, 14, 20] {
+        tour.raw(&MIXED, attribute, &VERTEX, &[0]);
+    }
+}
+
+fn normals(tour: &mut Tour) {
+    let bytes: Vec<u8> = (0x40..0x66).collect();
+    let words = [
+        0x4243_4445,
+        0x4647_4849,
+        0x4A4B_4C4D,
+        0x4E4F_5051,
+        0x5253_5455,
+        0x5657_5859,
+        0x5A5B_5C5D,
+        0x5E5F_6061,
+        0x6263_6465,
+    ];
+    tour.decodes(&NINE, 10, &bytes, &[&[8], &words[..]].concat());
+    tour.raw(&NINE, 10, &bytes, &[&[9], &words[..]].concat());
+    tour.decodes(&INDICES, 10, &bytes[..8], &[3, 0x4243, 0x4445, 0x4647]);
+    tour.raw(&INDICES, 10, &bytes[..8], &[0]);
+}
+
+fn refused_vertices(tour: &mut Tour) {
+    for attribute in [21, 22, 255, 256 + 9, 0x1_0009, u32::MAX] {
+        tour.not_decoded(&MIXED, attribute, &VERTEX, 19);
+    }
+    // The length is tested for an absent attribute too.
+    for attribute in [9, 20] {
+        tour.not_decoded(&MIXED, attribute, &VERTEX[..25], 19);
+        tour.not_decoded(&MIXED, attribute, &[], 19);
+        tour.not_decoded(&MIXED, attribute, &[0; 27], 19);
+        tour.not_decoded(&MIXED, attribute, &[0; 26 + 256], 19);
+    }
+    tour.not_decoded(&ABSENT, 21, &VERTEX, 9);
+    tour.not_decoded(&UNKNOWN, 21, &VERTEX, 10);
+}
+
+fn commands(tour: &mut Tour) {
+    let cases: [(CommandWords, &[u8]); 11] = [
+        ([0x00, 0, 0, 0, 0], &[0x00]),
+        ([0x48, 9, 9, 9, 9], &[0x48]),
+        ([0x68, 0, 0, 0, 0], &[0x68]),
+        ([0x08, 0x50, 0x2200, 9, 9], &[0x08, 0x50, 0, 0, 0x22, 0]),
+        ([0x20, 3, 12, 0xFFF, 0], &[0x20, 0, 3, 0xBF, 0xFF]),
+        ([0x28, 0, 1, 0, 0], &[0x28, 0, 0, 0, 0]),
+        ([0x30, 0x1234, 2, 0x56, 9], &[0x30, 0x12, 0x34, 0x10, 0x56]),
+        ([0x38, 0xFFFF, 16, 0, 7], &[0x38, 0xFF, 0xFF, 0xF0, 0]),
+        (
+            [0x40, 0xDEAD_BEE0, 0x100, 0, 0],
+            &[0x40, 0xDE, 0xAD, 0xBE, 0xE0, 0, 0, 1, 0],
+        ),
+        ([0x61, 0x41, 0xA5, 0, 0], &[0x61, 0x41, 0, 0, 0xA5]),
+        ([0x80, 2, 3, 0xFFFF, 0], &[0x93, 0xFF, 0xFF]),
+    ];
+    for (command, bytes) in cases {
+        tour.command(command, &[], 10, bytes);
+        // Lent words are not looked at, and the output may be just as long.
+        tour.command(command, &[1; 255], bytes.len(), bytes);
+    }
+    tour.command(
+        [0x10, 2, 0x1056, 0, 0],
+        &[0x0102_0304, 0x0506_0708],
+        14,
+        &[0x10, 0, 1, 0x10, 0x56, 1, 2, 3, 4, 5, 6, 7, 8],
+    );
+}
+
+fn refused_commands(tour: &mut Tour) {
+    // A vertex, kinds that are none, fields that are too wide.
+    for command in [
+        [0x01, 0, 0, 0, 0],
+        [0x02, 0, 0, 0, 0],
+        [0x100, 0, 0, 0, 0],
+        [0x161, 0x41, 0xA5, 0, 0],
+        [0x08, 0x150, 0, 0, 0],
+        [0x10, 0x101, 0, 0, 0],
+        [0x10, 0, 0, 0, 0],
+        [0x20, 0x1_0000, 1, 0, 0],
+        [0x28, 0, 1, 0x1000, 0],
+        [0x30, 0, 17, 0, 0],
+        [0x38, 0, 0, 0, 0],
+        [0x61, 0x41, 0x0100_0000, 0, 0],
+        [0x61, 0x141, 0, 0, 0],
+        [0x80, 8, 0, 0, 0],
+        [0x80, 0, 8, 0, 0],
+        [0x80, 0, 0, 0x1_0000, 0],
+    ] {
+        tour.command_refused(command, &[], 0, 18);
+    }
+    tour.command_refused([0x10, 2, 0, 0, 0], &[1], 30, 18);
+    tour.command_refused([0x10, 2, 0, 0, 0], &[1, 2, 3], 30, 18);
+    tour.command_refused([0x10, 2, 0x1_0000, 0, 0], &[1, 2], 30, 18);
+    tour.command_refused([0x08, 0x21, 0, 0, 0], &[], 0, 7);
+    tour.command_refused([0x10, 2, 0x1057, 0, 0], &[1, 2], 0, 8);
+    tour.command_refused([0x10, 1, 0xFFFF, 0, 0], &[1], 0, 8);
+    tour.command_refused([0x40, 1, 2, 0, 0], &[], 8, 16);
+    tour.command_refused([0x00, 0, 0, 0, 0], &[], 0, 16);
+}
+
+fn patches(tour: &mut Tour) {
+    let a = Patch::of(&[(0x41, 0x0F, 0x05), (0xFF, 0xFF_FFFF, 0x12_3456)]);
+    let b = Patch::of(&[(0x41, 0xF8, 0x30)]);
+    assert_eq!(tour.0.check_patch(&a), DONE);
+    // Bit 3 is b's, which is 0.
+    let merged = Patch::of(&[(0x41, 0xFF, 0x35), (0xFF, 0xFF_FFFF, 0x12_3456)]);
+    assert_eq!(tour.0.merge_patches(&a, &b, 256, 256), (DONE, merged));
+    let bytes = [
+        0x61, 0xFE, 0, 0, 0x0F, 0x61, 0x41, 0, 0, 0x05, //
+        0x61, 0xFE, 0xFF, 0xFF, 0xFF, 0x61, 0xFF, 0x12, 0x34, 0x56,
+    ];
+    tour.patch(&a, 20, &bytes);
+    tour.patch(&a, 25, &bytes);
+    assert_eq!(tour.0.write_patch(&a, 19).0, 16);
+    tour.patch(&Patch::empty(), 0, &[]);
+    // A mask with the number 0 is written.
+    let zero = Patch::of(&[(0, 1, 0)]);
+    tour.patch(&zero, 10, &[0x61, 0xFE, 0, 0, 1, 0x61, 0, 0, 0, 0]);
+}
+
+/// Document 01's two sheets at 41: one after the other they leave what the
+/// merged one leaves.
+fn patches_fed(tour: &mut Tour) {
+    let low = Patch::of(&[(0x41, 0x0F, 0x05)]);
+    let high = Patch::of(&[(0x41, 0xF0, 0x30)]);
+    let (answer, merged) = tour.0.merge_patches(&low, &high, 256, 256);
+    assert_eq!(answer, DONE);
+    let first = [0x61, 0xFE, 0, 0, 0x0F, 0x61, 0x41, 0, 0, 0x05];
+    let second = [0x61, 0xFE, 0, 0, 0xF0, 0x61, 0x41, 0, 0, 0x30];
+    let both = [0x61, 0xFE, 0, 0, 0xFF, 0x61, 0x41, 0, 0, 0x35];
+    tour.patch(&low, 10, &first);
+    tour.patch(&high, 10, &second);
+    tour.patch(&merged, 10, &both);
+    for streams in [&[first, second][..], &[both]] {
+        bench(tour);
+        tour.0.poke(word::BP + 0x41, 0xABC_DEF);
+        for bytes in streams {
+            tour.feeds(bytes, DONE);
+            tour.writes(0x004, 1, DONE);
+            tour.runs(65_535, WAITING, [2, 1]);
+        }
+        tour.holds(word::BP + 0x41, 0xABC_D35);
+        tour.holds(word::BP + 0xFE, 0xFF_FFFF);
+    }
+}
+
+fn refused_patches(tour: &mut Tour) {
+    for (register, mask, number, refusal) in [
+        (0xFE, 0, 1, 13),
+        (0xFE, 1, 0, 13),
+        (0xFE, 0x0100_0000, 0, 13),
+        (0x41, 0x0100_0000, 0, 14),
+        (0x41, 0x0100_0000, 0x10, 14),
+        (0x41, 0x0F, 0x10, 15),
+        (0x41, 0xFF_FFFF, 0x0100_0000, 15),
+        (0, 1, 2, 15),
+    ] {
+        tour.patch_refused(&Patch::of(&[(register, mask, number)]), refusal);
+    }
+    // The first fault, by register.
+    tour.patch_refused(&Patch::of(&[(0x41, 0, 1), (0xFE, 1, 0)]), 15);
+    tour.patch_refused(&Patch::of(&[(0xFE, 1, 0), (0xFF, 0, 1)]), 13);
+    let mut short = Patch::of(&[(0x41, 0x0F, 0x10)]);
+    short.masks.truncate(255);
+    tour.patch_refused(&short, 12);
+    let mut long = Patch::of(&[(0xFE, 1, 0)]);
+    long.numbers.push(0);
+    tour.patch_refused(&long, 12);
+    let none = Patch {
+        masks: vec![],
+        numbers: vec![],
+    };
+    tour.patch_refused(&none, 12);
+    // All three pairs, before any fault; then a's faults before b's.
+    let wide = Patch::of(&[(0xFF, 0x0100_0000, 0)]);
+    let outside = Patch::of(&[(0, 0, 1)]);
+    for (masks, numbers, answer) in [(2, 300, 12), (256, 1, 12), (0, 0, 12), (256, 256, 14)] {
+        let told = tour.0.merge_patches(&wide, &outside, masks, numbers);
+        assert_eq!(told.0, answer);
+    }
+    assert_eq!(tour.0.merge_patches(&outside, &wide, 256, 256).0, 15);
+    assert_eq!(tour.0.write_patch(&wide, 0).0, 14);
+    tour.same();
+}

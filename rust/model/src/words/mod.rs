@@ -1,0 +1,246 @@
+//! The calls of `include/duckhammock.h` over the same words and slices, written
+//! from that header and document 01. Each gives the answer's number; a refused
+//! or waiting call leaves what was lent as it was, but for a step's bytes
+//! lacking and a run's report.
+
+mod command;
+mod state;
+mod value;
+
+pub use command::{command_of, command_words};
+pub use state::{state_of, state_words};
+
+use crate::{
+    check_sheet, decode as decode_attribute, layout, merge_sheets, raw_words as raw_components,
+    write_command as put_command, write_sheet, Answer, End, Memory, Refusal, Sheet, SheetMut,
+    State, VertexFormat, ATTRIBUTES,
+};
+use state::{bench_of_registers, CONTROL, WRITE_POINTER};
+use value::value_words;
+
+pub const STATE_WORDS: usize = 327;
+pub const FORMAT_WORDS: usize = 5;
+pub const COMMAND_WORDS: usize = 5;
+pub const UNIT_WORDS: usize = 6;
+pub const REPORT_WORDS: usize = 2;
+pub const VALUE_WORDS: usize = 10;
+
+pub type StateWords = [u32; STATE_WORDS];
+/// VCD 0 and 1, VAT 0 to 2.
+pub type FormatWords = [u32; FORMAT_WORDS];
+/// Kind, a, b, c, d.
+pub type CommandWords = [u32; COMMAND_WORDS];
+/// A command's words, and the unit's bytes.
+pub type UnitWords = [u32; UNIT_WORDS];
+/// Units done, bytes lacking.
+pub type ReportWords = [u32; REPORT_WORDS];
+/// A kind or a count, and nine values.
+pub type ValueWords = [u32; VALUE_WORDS];
+
+/// Accepted, a unit done, the limit reached.
+pub const DONE: u32 = 0;
+/// "The next unit is not all there."
+pub const WAITING: u32 = 255;
+
+const CONTROL_OFFSET: u16 = 0x002;
+
+/// 0, or the refusal's number.
+fn number<T>(answer: &Result<T, Refusal>) -> u32 {
+    match answer {
+        Ok(_) => DONE,
+        Err(refusal) => refusal.number().into(),
+    }
+}
+
+/// Tells the value where there is one; the answer's number.
+fn tell<T>(answer: Result<T, Refusal>, place: &mut T) -> u32 {
+    let number = number(&answer);
+    if let Ok(value) = answer {
+        *place = value;
+    }
+    number
+}
+
+/// The VCD and one VAT.
+pub fn format_of(words: &FormatWords) -> VertexFormat {
+    let &[vcd_0, vcd_1, vat_0, vat_1, vat_2] = words;
+    VertexFormat {
+        vcd: [vcd_0, vcd_1],
+        vat: [vat_0, vat_1, vat_2],
+    }
+}
+
+pub fn fresh(state: &mut StateWords) {
+    *state = state_words(&State::fresh());
+}
+
+/// "The control register is read as its state word holds it, also where that is
+/// wider."
+pub fn read_register(state: &StateWords, offset: u16, value: &mut u32) -> u32 {
+    if offset == CONTROL_OFFSET {
+        *value = state[CONTROL];
+        return DONE;
+    }
+    let answer = bench_of_registers(state).read_register(offset);
+    tell(answer.map(u32::from), value)
+}
+
+/// "one state word of 0 to 6 changes"
+pub fn write_register(state: &mut StateWords, offset: u16, value: u16) -> u32 {
+    let mut bench = bench_of_registers(state);
+    let answer = bench.write_register(offset, value);
+    let words = state_words(&bench);
+    state[..CONTROL].copy_from_slice(&words[..CONTROL]);
+    if offset == CONTROL_OFFSET {
+        state[CONTROL] = words[CONTROL];
+    }
+    number(&answer)
+}
+
+/// "the fed places and the write pointer's state word change"
+pub fn feed(state: &mut StateWords, ring: &mut [u8], bytes: &[u8]) -> u32 {
+    let mut bench = bench_of_registers(state);
+    let answer = bench.feed(ring, bytes);
+    state[WRITE_POINTER] = bench.window.write;
+    number(&answer)
+}
+
+pub fn step(
+    state: &mut StateWords,
+    ring: &[u8],
+    xf: &mut [u32],
+    vertex: &mut [u8],
+    unit: &mut UnitWords,
+    lacking: &mut u32,
+) -> u32 {
+    *lacking = 0;
+    let Some(mut bench) = state_of(state) else {
+        return Refusal::BrokenState.number().into();
+    };
+    let pending = bench.window.count().unwrap_or(0);
+    match bench.step(&mut Memory { ring, xf, vertex }) {
+        Answer::Done {
+            command,
+            memory_address,
+        } => {
+            let left = bench.window.count().unwrap_or(0);
+            let [kind, a, b, c, d] = command_words(&command, memory_address);
+            *unit = [kind, a, b, c, d, pending - left];
+            *state = state_words(&bench);
+            DONE
+        }
+        Answer::Waiting { lacking: bytes } => {
+            *lacking = bytes;
+            WAITING
+        }
+        Answer::Refused(refusal) => refusal.number().into(),
+    }
+}
+
+/// "Where units were done, the state words are those of the state after them."
+pub fn run(
+    state: &mut StateWords,
+    ring: &[u8],
+    xf: &mut [u32],
+    vertex: &mut [u8],
+    limit: u32,
+    report: &mut ReportWords,
+) -> u32 {
+    *report = [0, 0];
+    let Some(mut bench) = state_of(state) else {
+        return Refusal::BrokenState.number().into();
+    };
+    let run = bench.run(&mut Memory { ring, xf, vertex }, limit);
+    if run.units != 0 {
+        *state = state_words(&bench);
+    }
+    let (answer, lacking) = match run.end {
+        End::Limit => (DONE, 0),
+        End::Waiting { lacking } => (WAITING, lacking),
+        End::Refused(refusal) => (refusal.number().into(), 0),
+    };
+    *report = [run.units, lacking];
+    answer
+}
+
+pub fn lay_out(
+    format: &FormatWords,
+    sizes: &mut [u8; ATTRIBUTES],
+    offsets: &mut [u8; ATTRIBUTES],
+    length: &mut u32,
+) -> u32 {
+    let answer = layout(&format_of(format));
+    if let Ok(layout) = &answer {
+        *sizes = layout.bytes;
+        *offsets = layout.before;
+        *length = layout.length.into();
+    }
+    number(&answer)
+}
+
+/// An attribute number that the model can be asked for; one above 20 stays so.
+fn attribute_number(attribute: u32) -> u8 {
+    attribute.try_into().unwrap_or(u8::MAX)
+}
+
+pub fn decode(format: &FormatWords, attribute: u32, vertex: &[u8], values: &mut ValueWords) -> u32 {
+    let answer = decode_attribute(&format_of(format), attribute_number(attribute), vertex);
+    tell(answer.map(|attribute| value_words(&attribute)), values)
+}
+
+pub fn raw_words(
+    format: &FormatWords,
+    attribute: u32,
+    vertex: &[u8],
+    values: &mut ValueWords,
+) -> u32 {
+    let answer = raw_components(&format_of(format), attribute_number(attribute), vertex);
+    let told = answer.map(|raw| {
+        let mut words = [0; VALUE_WORDS];
+        words[0] = raw.count.into();
+        words[1..].copy_from_slice(&raw.words);
+        words
+    });
+    tell(told, values)
+}
+
+/// 18 also where the kind is none, or a word does not fit its field.
+pub fn write_command(
+    command: &CommandWords,
+    words: &[u32],
+    output: &mut [u8],
+    written: &mut u32,
+) -> u32 {
+    let answer = command_of(command)
+        .ok_or(Refusal::CommandField)
+        .and_then(|command| put_command(&command, words, output));
+    tell(answer.map(|bytes| bytes as u32), written)
+}
+
+pub fn check_patch(masks: &[u32], numbers: &[u32]) -> u32 {
+    number(&check_sheet(&Sheet { masks, numbers }))
+}
+
+pub fn merge_patches(
+    a_masks: &[u32],
+    a_numbers: &[u32],
+    b_masks: &[u32],
+    b_numbers: &[u32],
+    masks: &mut [u32],
+    numbers: &mut [u32],
+) -> u32 {
+    let a = Sheet {
+        masks: a_masks,
+        numbers: a_numbers,
+    };
+    let b = Sheet {
+        masks: b_masks,
+        numbers: b_numbers,
+    };
+    number(&merge_sheets(&a, &b, &mut SheetMut { masks, numbers }))
+}
+
+pub fn write_patch(masks: &[u32], numbers: &[u32], output: &mut [u8], written: &mut u32) -> u32 {
+    let answer = write_sheet(&Sheet { masks, numbers }, output);
+    tell(answer.map(|bytes| bytes as u32), written)
+}
