@@ -27,3 +27,7 @@ stays-number reason e new old = rw (not-zero reason e)
 pub first-is : (refusal : ℕ) (l : List ℕ) → firstOf (cond (eqb refusal 0) (0 ∷ l) (refusal ∷ [])) ≡ refusal
 first-is zero l = refl
 first-is (suc n) l = rw (ne-eqb (suc n) 0 (λ e. omega (arith, e)))
+
+-- the number of an answer that is one number
+pub first-number : {m n : ℕ} → m ∷ [] ≡ n ∷ [] → m ≡ n
+first-number e = ap firstOf e

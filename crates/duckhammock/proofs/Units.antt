@@ -1,20 +1,23 @@
 -- What a step and a run promise: the state that the words say is handed on, and its words are stored where a unit was done.
 use mathlib.Core.Path.{_≡_, refl, sym, ap, _∙_, subst}
 use mathlib.Core.Bool.{false, cond}
-use mathlib.Core.Logic.{_⊎_, inl, inr}
+use mathlib.Core.Logic.{_⊎_, inl, inr, ⊎-elim}
 use mathlib.Core.List.{List, [], _∷_}
 use Prim.Native.Nat.{ℕ, zero, suc, min}
+use native.Mathlib.Nat.{min-eq-left}
 use native.Mathlib.Omega.{arith}
 use lib.Dec.{eqb}
 use lib.ListN.{length}
 use denote.Enum.Declared.{tagOf}
 use borrow.Author.Tests.{eq-eqb, ne-eqb}
+use Rattle.laws.proofs.Cases.{tested}
 use Rattle.refusal.specs.Number.{number}
 use Rattle.refusal.specs.declared.Reason.the-variants.{InvalidState}
 use Rattle.command.specs.declared.Command.{Command}
 use Rattle.command.specs.declared.Draw.{Draw}
-use Rattle.command.specs.Command.{Found, unit, waiting, refused, numbersOf}
+use Rattle.command.specs.Command.{Found, unit, waiting, refused, kindOf, numbersOf}
 use Rattle.command.specs.Look.{unlessRefused}
+use Rattle.effect.specs.Effect.{cpAfter, bpAfter}
 use Rattle.fifo.specs.declared.Fifo.{Fifo}
 use Rattle.processor.proofs.StepAnswer as Answers
 use Rattle.processor.specs.declared.StepAnswer.{StepAnswer}
@@ -23,11 +26,11 @@ use Rattle.processor.specs.declared.Stepped.{Stepped}
 use Rattle.processor.specs.declared.Ran.{Ran}
 use Rattle.processor.specs.State.{State, stateOf}
 use Rattle.processor.specs.Gate.{gateOf}
-use Rattle.processor.specs.Step.{meaning, after, stepFound, stepOf, Steps}
+use Rattle.processor.specs.Step.{meaning, executed, after, stepFound, stepOf, Steps}
 use Rattle.processor.specs.Run.{Ended, ended, goneOn, steps, gated, runLimit, runOf, meaningOfStop, Reports}
 use Rattle.words.specs.declared.state.Front.the-variants.{Held, Wide}
 use Rattle.words.specs.State.{fifoOf, drawOf, cpOf, bpOf, stateAt, wordsBy}
-use Rattle.words.specs.Front.{frontOf}
+use Rattle.words.specs.Front.{frontOf, unitWords}
 use Rattle.words.specs.Told.{firstOf, secondOf, stepNumber, lackingOf, unitOf}
 use Rattle.words.proofs.Fits.{held-is, wide-refused}
 use Rattle.duckhammock.specs.Calls.{Lent, lentOf, lentBy, Tells, Ends}
@@ -95,17 +98,32 @@ module _ (ring : List ℕ) (s : State) (words told : List ℕ) where
         lent-is = rw z (ap (λ (x : State). lentOf words (x .xf) (x .buffer)) left);
       }
 
+  -- registers that a command does not load are those of the words
+  whole-cp : (c cp : List ℕ) → s .cp ≡ cpOf words → cp ≡ cpAfter c (s .cp) → cond (eqb (kindOf c) 0x08) cp (cpOf words) ≡ cp
+  unfolding cpAfter
+  whole-cp c cp e h = ⊎-elim (λ z. rw z) (λ z. rw z (sym (rw z at h ∙ e))) (tested (eqb (kindOf c) 0x08))
+
+  whole-bp : (c bp : List ℕ) → s .bp ≡ bpOf words → bp ≡ bpAfter c (s .bp) → cond (eqb (kindOf c) 0x61) bp (bpOf words) ≡ bp
+  unfolding bpAfter
+  whole-bp c bp e h = ⊎-elim (λ z. rw z) (λ z. rw z (sym (rw z at h ∙ e))) (tested (eqb (kindOf c) 0x61))
+
   pub step-done : {c : Stepped} {cp bp xf vertex words' told' : List ℕ} {lacking : ℕ} (command : Command) (memory n : ℕ)
-      → Steps ring s c cp bp xf vertex → c .answer ≡ Done command memory n → words' ≡ wordsBy (c .fifo) cp bp (c .draw)
+      → s .cp ≡ cpOf words → s .bp ≡ bpOf words
+      → Steps ring s c cp bp xf vertex → c .answer ≡ Done command memory n
+      → words' ≡ unitWords words (kindOf (numbersOf command)) (c .fifo) cp bp (c .draw)
       → told' ≡ unitOf (unit (numbersOf command) memory n) → lacking ≡ lackingOf (meaning (c .answer))
       → Tells ring s (lentOf words (s .xf) (s .buffer)) told 0 (lentOf words' xf vertex) told' lacking
-  step-done {xf = xf} {vertex = vertex} command memory n h t w u k =
+  unfolding unitWords stepOf executed
+  step-done {c} {cp} {bp} {xf} {vertex} command memory n of-cp of-bp h t w u k =
       let found = ap meaning (sym t) ∙ h .answer-is in
+      let left = h .state-is ∙ ap (after ring s) (sym found) in
+      let p = whole-cp (numbersOf command) cp of-cp (ap (λ (x : State). x .cp) left) in
+      let q = whole-bp (numbersOf command) bp of-bp (ap (λ (x : State). x .bp) left) in
       record {
         answer-is = ap stepNumber found;
         lacking-is = k ∙ ap lackingOf (h .answer-is);
         unit-is = u ∙ ap unitOf found;
-        lent-is = ap (λ (x : List ℕ). lentOf x xf vertex) w ∙ ap lentBy (h .state-is);
+        lent-is = ap (λ (x : List ℕ). lentOf x xf vertex) (w ∙ (λ i. wordsBy (c .fifo) (p i) (q i) (c .draw))) ∙ ap lentBy (h .state-is);
       }
 
 -- ---- a run
@@ -136,6 +154,19 @@ module _ (ring : List ℕ) (limit : ℕ) (s : State) (words : List ℕ) where
       → Ends (runOf ring limit s) (lentOf words (s .xf) (s .buffer)) r (lentOf words (s .xf) (s .buffer)) report
   unfolding runOf
   run-wide g e k = record { answer-is = rw g e; report-is = rw g k; lent-is = rw g }
+
+  -- a run of limit 0 gives 1 to 5
+  by-gate : (g : ℕ) {e : Ended} → e ≡ gated g s (ended [] (0 ∷ []) s) → {r : ℕ} → r ≡ g
+      → Ends e (lentOf words (s .xf) (s .buffer)) r (lentOf words (s .xf) (s .buffer)) (0 ∷ 0 ∷ [])
+  by-gate zero z e = rw z (record { answer-is = e; report-is = refl; lent-is = refl })
+  by-gate (suc g) z e = rw z (record { answer-is = e; report-is = refl; lent-is = refl })
+
+  pub run-zero : {r : ℕ} → limit ≡ 0 → r ≡ gateOf s (length ring)
+      → Ends (runOf ring limit s) (lentOf words (s .xf) (s .buffer)) r (lentOf words (s .xf) (s .buffer)) (0 ∷ 0 ∷ [])
+  unfolding runOf steps
+  run-zero z e =
+      let m : min limit runLimit ≡ 0 = ap (λ (n : ℕ). min n runLimit) z ∙ min-eq-left (omega arith) in
+      by-gate (gateOf s (length ring)) (ap (λ (n : ℕ). gated (gateOf s (length ring)) s (steps ring n s)) m) e
 
   module _ {c : Ran} {cp bp xf vertex report : List ℕ} {r lacking : ℕ} (h : Reports (runOf ring limit s) c cp bp xf vertex)
       (e : r ≡ firstOf (meaningOfStop (c .stop))) (k : lacking ≡ secondOf (meaningOfStop (c .stop)))

@@ -7,6 +7,7 @@
 mod formats;
 mod patches;
 
+use command::Draw;
 use fifo::Answer;
 use fifo::Fifo;
 use fifo::Reading;
@@ -17,13 +18,15 @@ pub use patches::duckhammock_check_patch;
 pub use patches::duckhammock_merge_patches;
 pub use patches::duckhammock_write_command;
 pub use patches::duckhammock_write_patch;
+use processor::Gate;
 use processor::StepAnswer;
 use refusal::Reason;
 use words::Front;
 ghost use mathlib.Core.Path.{_≡_};
 ghost use Rattle.refusal.specs.Number.{number};
+ghost use Rattle.processor.specs.Gate.{gateBy};
 ghost use Rattle.processor.specs.Run.{runOf};
-ghost use Rattle.words.specs.State.{stateAt, freshWords};
+ghost use Rattle.words.specs.State.{cpOf, bpOf, stateAt, freshWords};
 ghost use Rattle.duckhammock.specs.Calls.{Reads, Writes, Feeds, lentOf, Tells, Ends};
 
 // The hardware offset of the control register, whose state word may be wider than the register.
@@ -149,9 +152,29 @@ pub extern "C" fn duckhammock_step(
     };
     let after = stepped.fifo;
     let left = stepped.draw;
-    words::save(state, after, &cp, &bp, left);
+    words::save_unit(state, command, after, &cp, &bp, left);
     *unit = words::unit_words(command, memory, length);
     0
+}
+
+// The first of 1 to 5 that applies to the words as they stand, 0 where none does. No register is copied for it.
+fn gate_number(
+    state: &[u32; 327],
+    fifo: Fifo,
+    draw: Draw,
+    ring: usize,
+    xf: usize,
+    vertex: usize,
+) -> u32
+    ensures { λ r. ⌜ r ≡ gateBy fifo (cpOf (now (state .entry))) (bpOf (now (state .entry))) draw ring xf vertex ⌝ }
+{
+    let cp = words::cp(state);
+    let bp = words::bp(state);
+    let gate = processor::pass(fifo, &cp, &bp, draw, ring, xf, vertex);
+    match gate {
+        Gate::Passed => 0,
+        Gate::Refused(reason) => refused(reason),
+    }
 }
 
 // Takes units until the limit, waiting or a refusal. Its report: the units done, and the bytes lacking, 0 unless it waits.
@@ -173,6 +196,10 @@ pub extern "C" fn duckhammock_run(
         *report = [0, 0];
         return refused(Reason::InvalidState);
     };
+    if limit == 0 {
+        *report = [0, 0];
+        return gate_number(state, fifo, draw, ring.len(), xf.len(), vertex.len());
+    }
     let mut cp = words::cp(state);
     let mut bp = words::bp(state);
     let ran = processor::run(fifo, &mut cp, &mut bp, draw, ring, xf, vertex, limit);

@@ -10,6 +10,7 @@ use command::Draw;
 use fifo::Fifo;
 use fifo::Reading;
 use refusal::Reason;
+pub use tests::pass;
 ghost use mathlib.Core.Path.{_≡_};
 ghost use Rattle.fifo.specs.Answers.{meaningOfReading};
 ghost use Rattle.fifo.specs.Registers.{readAnswer};

@@ -9,27 +9,27 @@ ghost use Prim.Native.Nat.{_+_, _≤_};
 ghost use lib.ListN.{length, take, drop};
 ghost use mathlib.Core.List.{[], _∷_};
 ghost use Rattle.refusal.specs.Number.{number};
-ghost use Rattle.processor.specs.Gate.{allBelow, cpFits, drawFits, registersFit, stateFits, gateBy, meaningOfGate};
+ghost use Rattle.processor.specs.Gate.{Joins, cpFits, drawFits, registersFit, stateFits, gateBy, meaningOfGate};
 
-// Whether n values from a place on are below a limit.
-fn all_below(values: &[u32], from: usize, n: usize, limit: u32) -> bool
+// n values from a place on, joined bit by bit: below a power of two exactly where each of them is.
+fn join(values: &[u32], from: usize, n: usize) -> u32
     requires { ⌜ from + n ≤ length (now values) ⌝ }
-    ensures { λ r. ⌜ r ≡ allBelow limit (take n (drop from (now (values .entry)))) ⌝ }
+    ensures { λ r. ⌜ Joins r (take n (drop from (now (values .entry)))) ⌝ }
 {
-    let mut fits = true;
+    let mut joined: u32 = 0;
     let mut i: usize = 0;
     while i < n {
-        fits = fits & (values[from + i] < limit);
+        joined = joined | values[from + i];
         i += 1;
     }
-    fits
+    joined
 }
 
 // Bases of 26 bits, strides of 8.
 fn cp_fits(cp: &[u32; 60]) -> bool
     ensures { λ r. ⌜ r ≡ cpFits (now (cp .entry)) ⌝ }
 {
-    all_below(cp, 28, 16, 0x400_0000) & all_below(cp, 44, 16, 256)
+    (join(cp, 28, 16) < 0x400_0000) & (join(cp, 44, 16) < 256)
 }
 
 // An open draw has a vertex left, and a primitive and a format of three bits.
@@ -50,7 +50,7 @@ fn draw_fits(draw: Draw) -> bool
 fn registers_fit(cp: &[u32; 60], bp: &[u32; 256], draw: Draw) -> bool
     ensures { λ r. ⌜ r ≡ registersFit (now (cp .entry)) (now (bp .entry)) draw ⌝ }
 {
-    all_below(bp, 0, 256, 0x100_0000) & (cp_fits(cp) & draw_fits(draw))
+    (join(bp, 0, 256) < 0x100_0000) & (cp_fits(cp) & draw_fits(draw))
 }
 
 // The whole of 1.

@@ -1,17 +1,23 @@
 -- The words of a state, stored piece by piece: those of the fifo, of the draw, the CP registers, the BP registers.
-use mathlib.Core.Path.{_≡_, refl, sym, ap, _∙_, subst}
+use mathlib.Core.Path.{_≡_, refl, sym, ap, _∙_}
 use mathlib.Core.List.{List, [], _∷_, _++_, append-assoc, append-nil}
-use Prim.Native.Nat.{ℕ, _+_, _-_, _≤_, _<_}
-use native.Mathlib.Nat.{le-of-eq}
+use Prim.Native.Nat.{ℕ, _+_, _-_, _≤_}
 use native.Mathlib.Omega.{arith}
-use lib.ListN.{length, getD, take, drop, length-append, length-drop, drop-of-length-le}
-use lib.Seq.{drop-drop, length-take-le}
-use Rattle.laws.proofs.Pieces.{Pieces, pieces-none, pieces-next, pieces-all}
+use lib.ListN.{length, take, drop, length-append, length-drop, drop-of-length-le, take-append-drop}
+use lib.Seq.{drop-drop, length-take-le, take-at, drop-at, take-all}
+use types.Run.{OneOf, miss}
+use denote.Enum.Declared.{tagOf}
+use Rattle.command.proofs.Command as Commands
+use Rattle.command.specs.declared.Command.{Command}
+use Rattle.command.specs.declared.Command.the-variants.{NoOperation, InvalidateCache, Metrics, LoadCp, LoadXf, LoadIndexed}
+use Rattle.command.specs.declared.Command.the-variants.{CallList, LoadBp, DrawHead, Vertex}
+use Rattle.command.specs.Command.{kindOf, numbersOf}
 use Rattle.command.specs.declared.Draw.{Draw}
 use Rattle.command.specs.declared.Draw.the-variants.{Closed, Open}
 use Rattle.fifo.specs.declared.Fifo.{Fifo}
 use Rattle.fifo.specs.Feeding.{put}
 use Rattle.words.specs.State.{cpOf, bpOf, fifoWords, drawWords, wordsBy}
+use Rattle.words.specs.Front.{unitWords}
 
 -- a list stored over all of another of its length
 pub put-whole : (d l : List ℕ) → length l ≡ length d → put d 0 l ≡ l
@@ -26,58 +32,104 @@ filled d l at h e =
     let k : length (take (length d) (drop at l)) ≡ length d = length-take-le (length d) (drop at l) (omega (arith, length-drop at l)) in
     e ∙ ap (λ (x : ℕ). put d 0 (take x (drop at l))) n ∙ put-whole d (take (length d) (drop at l)) k
 
-put-parts : (d : List ℕ) (at : ℕ) (l : List ℕ) → put d at l ≡ take at d ++ (l ++ drop (length l) (drop at d))
-put-parts d at l =
-    append-assoc (take at d) l (drop (at + length l) d)
-    ∙ ap (λ (x : List ℕ). take at d ++ (l ++ x)) (sym (drop-drop (length l) at d))
-
--- the next piece of the list w, stored where the one before ended
-next-piece : {w d out out' : List ℕ} {at end : ℕ} (l q : List ℕ) → Pieces w d out at (l ++ q) → out' ≡ put out at l
-    → at + length l ≡ end → Pieces w d out' end q
-next-piece {w} {d} {out} {out'} {at} {end} l q p e n =
-    subst (λ (x : ℕ). Pieces w d out' x q) n
-    (subst (λ (x : List ℕ). Pieces w d x (at + length l) q) (sym (e ∙ put-parts out at l)) (pieces-next l q p))
+-- a part in the middle stored anew
+put-middle : (a old new b : List ℕ) (at : ℕ) → length a ≡ at → length old ≡ length new → put (a ++ (old ++ b)) at new ≡ a ++ (new ++ b)
+put-middle a old new b at n e =
+    let front : take at (a ++ (old ++ b)) ≡ a = take-at a (old ++ b) at n in
+    let rest : drop (at + length new) (a ++ (old ++ b)) ≡ b =
+    sym (drop-drop (length new) at (a ++ (old ++ b))) ∙ ap (λ (x : List ℕ). drop (length new) x) (drop-at a (old ++ b) at n) ∙ drop-at old b (length new) e in
+    (λ i. (front i ++ new) ++ rest i) ∙ append-assoc a new b
 
 draw-length : (draw : Draw) → length (drawWords draw) ≡ 4
 draw-length Closed = refl
 draw-length (Open primitive format left) = refl
 
--- the four pieces, each behind the one before, are the words of a state
-module _ (f : Fifo) (cp bp : List ℕ) (draw : Draw) (cp-length : length cp ≡ 60) (bp-length : length bp ≡ 256) where
-  all : List ℕ
-  all = fifoWords f ++ (drawWords draw ++ (cp ++ (bp ++ [])))
+-- the CP registers stored, the BP registers stored
+module _ (f : Fifo) (draw : Draw) where
+  ahead : length (fifoWords f ++ drawWords draw) ≡ 11
+  ahead = omega (arith, length-append (fifoWords f) (drawWords draw), draw-length draw)
 
-  all-is : all ≡ wordsBy f cp bp draw
-  unfolding all wordsBy
-  all-is = ap (λ (x : List ℕ). fifoWords f ++ (drawWords draw ++ (cp ++ x))) (append-nil bp)
+  pub put-cp : (cp cp' bp : List ℕ) → length cp ≡ 60 → length cp' ≡ 60 → put (wordsBy f cp bp draw) 11 cp' ≡ wordsBy f cp' bp draw
+  unfolding wordsBy
+  put-cp cp cp' bp h k =
+      ap (λ (x : List ℕ). put x 11 cp') (sym (append-assoc (fifoWords f) (drawWords draw) (cp ++ bp)))
+      ∙ put-middle (fifoWords f ++ drawWords draw) cp cp' bp 11 ahead (h ∙ sym k)
+      ∙ append-assoc (fifoWords f) (drawWords draw) (cp' ++ bp)
 
-  all-length : length all ≡ 327
-  unfolding all
-  all-length =
-      omega (
-        arith,
-        draw-length draw,
-        length-append (fifoWords f) (drawWords draw ++ (cp ++ (bp ++ []))),
-        length-append (drawWords draw) (cp ++ (bp ++ [])),
-        length-append cp (bp ++ []),
-        length-append bp [],
-      )
+  pub put-bp : (cp bp bp' : List ℕ) → length cp ≡ 60 → length bp ≡ 256 → length bp' ≡ 256 → put (wordsBy f cp bp draw) 71 bp' ≡ wordsBy f cp bp' draw
+  unfolding wordsBy
+  put-bp cp bp bp' h k m =
+      let a : List ℕ = (fifoWords f ++ drawWords draw) ++ cp in
+      let n : length a ≡ 71 = omega (arith, length-append (fifoWords f ++ drawWords draw) cp, ahead) in
+      let whole : (r : List ℕ) → a ++ r ≡ fifoWords f ++ (drawWords draw ++ (cp ++ r)) =
+      λ r. append-assoc (fifoWords f ++ drawWords draw) cp r ∙ append-assoc (fifoWords f) (drawWords draw) (cp ++ r) in
+      ap (λ (x : List ℕ). put x 71 bp') (sym (ap (λ (x : List ℕ). a ++ x) (append-nil bp) ∙ whole bp))
+      ∙ put-middle a bp bp' [] 71 n (k ∙ sym m)
+      ∙ ap (λ (x : List ℕ). a ++ x) (append-nil bp')
+      ∙ whole bp'
 
-  pub saved : (d : List ℕ) {front drawn once twice thrice out : List ℕ} → length d ≡ 327
-      → front ≡ fifoWords f → drawn ≡ drawWords draw
-      → once ≡ put d 0 front → twice ≡ put once 7 drawn → thrice ≡ put twice 11 cp → out ≡ put thrice 71 bp
-      → out ≡ wordsBy f cp bp draw
-  unfolding all
-  saved d {front} {drawn} {once} h of-front of-drawn e1 e2 e3 e4 =
-      let n = draw-length draw in
-      let p0 : Pieces all d d 0 all = pieces-none all d (le-of-eq (all-length ∙ sym h)) in
-      let f1 = e1 ∙ ap (λ (x : List ℕ). put d 0 x) of-front in
-      let f2 = e2 ∙ ap (λ (x : List ℕ). put once 7 x) of-drawn in
-      let p1 = next-piece {end = 7} (fifoWords f) (drawWords draw ++ (cp ++ (bp ++ []))) p0 f1 refl in
-      let p2 = next-piece {end = 11} (drawWords draw) (cp ++ (bp ++ [])) p1 f2 (omega arith) in
-      let p3 = next-piece {end = 71} cp (bp ++ []) p2 e3 (omega arith) in
-      let p4 = next-piece {end = 327} bp [] p3 e4 (omega arith) in
-      pieces-all p4
-      ∙ ap (λ (x : List ℕ). all ++ x) (drop-of-length-le d {i = length all} (omega (arith, all-length)))
-      ∙ append-nil all
-      ∙ all-is
+-- the words of the fifo and of the draw stored: the registers stay
+module _ (f : Fifo) (draw : Draw) (l : List ℕ) (long : length l ≡ 327) where
+  parts : drop 11 l ≡ cpOf l ++ bpOf l
+  unfolding cpOf bpOf
+  parts =
+      let b : take 256 (drop 71 l) ≡ drop 71 l = take-all 256 (drop 71 l) (omega (arith, length-drop 71 l)) in
+      sym (take-append-drop 60 (drop 11 l)) ∙ ap (λ (x : List ℕ). take 60 (drop 11 l) ++ x) (drop-drop 60 11 l ∙ sym b)
+
+  pub front-saved : {front drawn once out : List ℕ} → front ≡ fifoWords f → drawn ≡ drawWords draw
+      → once ≡ put l 0 front → out ≡ put once 7 drawn → out ≡ wordsBy f (cpOf l) (bpOf l) draw
+  unfolding wordsBy
+  front-saved of-front of-drawn e1 e2 =
+      let once : _ ≡ fifoWords f ++ drop 7 l = e1 ∙ ap (λ (x : List ℕ). put l 0 x) of-front in
+      let old : drop 7 l ≡ take 4 (drop 7 l) ++ drop 11 l =
+      sym (take-append-drop 4 (drop 7 l)) ∙ ap (λ (x : List ℕ). take 4 (drop 7 l) ++ x) (drop-drop 4 7 l) in
+      let n : length (take 4 (drop 7 l)) ≡ length (drawWords draw) =
+      length-take-le 4 (drop 7 l) (omega (arith, length-drop 7 l)) ∙ sym (draw-length draw) in
+      e2
+      ∙ (λ i. put ((once ∙ ap (λ (x : List ℕ). fifoWords f ++ x) old) i) 7 (of-drawn i))
+      ∙ put-middle (fifoWords f) (take 4 (drop 7 l)) (drawWords draw) (drop 11 l) 7 refl n
+      ∙ ap (λ (x : List ℕ). fifoWords f ++ (drawWords draw ++ x)) parts
+
+  pub cp-length : length (cpOf l) ≡ 60
+  unfolding cpOf
+  cp-length = length-take-le 60 (drop 11 l) (omega (arith, length-drop 11 l))
+
+  pub bp-length : length (bpOf l) ≡ 256
+  unfolding bpOf
+  bp-length = length-take-le 256 (drop 71 l) (omega (arith, length-drop 71 l))
+
+  -- the CP registers of a load, the BP registers of a load
+  pub cp-saved : (cp bp : List ℕ) {once out : List ℕ} → length cp ≡ 60 → once ≡ wordsBy f (cpOf l) (bpOf l) draw → out ≡ put once 11 cp
+      → out ≡ unitWords l 0x08 f cp bp draw
+  unfolding unitWords
+  cp-saved cp bp n e1 e2 =
+      e2 ∙ ap (λ (x : List ℕ). put x 11 cp) e1 ∙ put-cp f draw (cpOf l) cp (bpOf l) cp-length n
+
+  pub bp-saved : (cp bp : List ℕ) {once out : List ℕ} → length bp ≡ 256 → once ≡ wordsBy f (cpOf l) (bpOf l) draw → out ≡ put once 71 bp
+      → out ≡ unitWords l 0x61 f cp bp draw
+  unfolding unitWords
+  bp-saved cp bp n e1 e2 =
+      e2 ∙ ap (λ (x : List ℕ). put x 71 bp) e1 ∙ put-bp f draw (cpOf l) (bpOf l) bp cp-length bp-length n
+
+  -- all of them
+  pub all-saved : (cp bp : List ℕ) {once twice out : List ℕ} → length cp ≡ 60 → length bp ≡ 256 → once ≡ wordsBy f (cpOf l) (bpOf l) draw
+      → twice ≡ put once 11 cp → out ≡ put twice 71 bp → out ≡ wordsBy f cp bp draw
+  all-saved cp bp n m e1 e2 e3 =
+      e3
+      ∙ ap (λ (x : List ℕ). put x 71 bp) (e2 ∙ ap (λ (x : List ℕ). put x 11 cp) e1 ∙ put-cp f draw (cpOf l) cp (bpOf l) cp-length n)
+      ∙ put-bp f draw cp (bpOf l) bp n bp-length m
+
+-- a command that loads no register of the two
+pub no-load : (c : Command) → OneOf (0 ∷ 1 ∷ 2 ∷ 4 ∷ 5 ∷ 6 ∷ 8 ∷ 9 ∷ []) (tagOf Commands.the-type c) → (l : List ℕ) (f : Fifo) (cp bp : List ℕ) (draw : Draw)
+    → wordsBy f (cpOf l) (bpOf l) draw ≡ unitWords l (kindOf (numbersOf c)) f cp bp draw
+unfolding unitWords
+no-load NoOperation h l f cp bp draw = refl
+no-load InvalidateCache h l f cp bp draw = refl
+no-load Metrics h l f cp bp draw = refl
+no-load (LoadCp a n) h l f cp bp draw = absurd (miss (0 ∷ 1 ∷ 2 ∷ 4 ∷ 5 ∷ 6 ∷ 8 ∷ 9 ∷ []) 3 tt h)
+no-load (LoadXf w a) h l f cp bp draw = refl
+no-load (LoadIndexed a i w x) h l f cp bp draw = refl
+no-load (CallList a n) h l f cp bp draw = refl
+no-load (LoadBp r n) h l f cp bp draw = absurd (miss (0 ∷ 1 ∷ 2 ∷ 4 ∷ 5 ∷ 6 ∷ 8 ∷ 9 ∷ []) 7 tt h)
+no-load (DrawHead p g n) h l f cp bp draw = refl
+no-load Vertex h l f cp bp draw = refl

@@ -1,12 +1,14 @@
--- For the code's own functions: the fifo and the draw in the code's types, where words 6, 8 and 9 fit them.
+-- For the code's own functions: the fifo and the draw in the code's types, where words 6, 8 and 9 fit them; the words after a unit.
 use mathlib.Core.Bool.{Bool, cond, _&&_, _||_}
 use mathlib.Core.List.{List}
 use Prim.Native.Nat.{ℕ, _^_}
 use lib.Dec.{eqb, ltb}
 use lib.ListN.{getD}
+use Rattle.command.specs.declared.Draw.{Draw}
+use Rattle.fifo.specs.declared.Fifo.{Fifo}
 use Rattle.words.specs.declared.state.Front.{Front}
 use Rattle.words.specs.declared.state.Front.the-variants.{Held, Wide}
-use Rattle.words.specs.State.{fifoOf, drawOf}
+use Rattle.words.specs.State.{fifoOf, drawOf, cpOf, bpOf, wordsBy}
 
 -- control has 16 bits, and the primitive and format of an open draw have 8
 unfoldable pub fits : List ℕ → Bool
@@ -14,3 +16,7 @@ fits l = ltb (getD l 6 0) (2 ^ 16) && (eqb (getD l 7 0) 0 || (ltb (getD l 8 0) (
 
 unfoldable pub frontOf : List ℕ → Front
 frontOf l = cond (fits l) (Held (fifoOf l) (drawOf l)) Wide
+
+-- the words after a unit whose command has this kind: of the registers only those that it loads are stored, and the others stay
+unfoldable pub unitWords : List ℕ → ℕ → Fifo → List ℕ → List ℕ → Draw → List ℕ
+unitWords l kind f cp bp draw = wordsBy f (cond (eqb kind 0x08) cp (cpOf l)) (cond (eqb kind 0x61) bp (bpOf l)) draw

@@ -19,6 +19,7 @@ pub use state::cp;
 pub use state::read_front;
 pub use state::save;
 pub use state::save_control;
+pub use state::save_unit;
 pub use state::save_window;
 pub use state::save_write;
 pub use state::window;

@@ -1,15 +1,17 @@
 // The state as 327 words: read from them, and written to them.
+use command::Command;
 use command::Draw;
 use fifo::Fifo;
 use fifo::Window;
 ghost use mathlib.Core.Path.{_≡_};
 ghost use Prim.Native.Nat.{_+_, _≤_};
 ghost use lib.ListN.{length, take, drop};
+ghost use Rattle.command.specs.Command.{kindOf, numbersOf};
 ghost use Rattle.fifo.specs.Feeding.{put};
 ghost use Rattle.fifo.specs.Window.{withWindow, withWrite, withControl};
 ghost use Rattle.words.specs.State.{windowOf, fifoOf, leftOf, cpOf, bpOf};
 ghost use Rattle.words.specs.State.{windowWords, fifoWords, drawWords, wordsBy, withFifo};
-ghost use Rattle.words.specs.Front.{frontOf};
+ghost use Rattle.words.specs.Front.{frontOf, unitWords};
 
 // Words 0 to 10 in the types of the fifo and the draw, or too wide for them.
 pub enum Front {
@@ -181,14 +183,42 @@ pub fn save_control(state: &mut [u32; 327], control: u16)
     store(state, 6, &one);
 }
 
-// Writes all words.
-pub fn save(state: &mut [u32; 327], fifo: Fifo, cp: &[u32; 60], bp: &[u32; 256], draw: Draw)
-    ensures { λ _. ⌜ now (state .exit) ≡ wordsBy fifo (now (cp .entry)) (now (bp .entry)) draw ⌝ }
+// Writes words 0 to 10.
+fn save_front(state: &mut [u32; 327], fifo: Fifo, draw: Draw)
+    ensures { λ _. ⌜ (now (state .exit) ≡ wordsBy fifo (cpOf (now (state .entry))) (bpOf (now (state .entry))) draw)
+        × (length (now (state .entry)) ≡ 327) ⌝ }
 {
     let front = fifo_words(fifo);
     let drawn = draw_words(draw);
     store(state, 0, &front);
     store(state, 7, &drawn);
+}
+
+// Writes all words.
+pub fn save(state: &mut [u32; 327], fifo: Fifo, cp: &[u32; 60], bp: &[u32; 256], draw: Draw)
+    ensures { λ _. ⌜ now (state .exit) ≡ wordsBy fifo (now (cp .entry)) (now (bp .entry)) draw ⌝ }
+{
+    save_front(state, fifo, draw);
     store(state, 11, cp);
     store(state, 71, bp);
+}
+
+// Writes words 0 to 10, and the registers that a command loads, if any.
+pub fn save_unit(
+    state: &mut [u32; 327],
+    command: Command,
+    fifo: Fifo,
+    cp: &[u32; 60],
+    bp: &[u32; 256],
+    draw: Draw,
+)
+    ensures { λ _. ⌜ now (state .exit)
+        ≡ unitWords (now (state .entry)) (kindOf (numbersOf command)) fifo (now (cp .entry)) (now (bp .entry)) draw ⌝ }
+{
+    save_front(state, fifo, draw);
+    match command {
+        Command::LoadCp { .. } => store(state, 11, cp),
+        Command::LoadBp { .. } => store(state, 71, bp),
+        _ => {}
+    }
 }

@@ -2,7 +2,7 @@
 use mathlib.Core.Path.{refl, sym, _∙_}
 use Rattle.words.specs.State.{stateAt}
 use Rattle.words.proofs.Fits.{wide-refused}
-use Rattle.duckhammock.proofs.Units.{handed, run-wide, run-none, run-some}
+use Rattle.duckhammock.proofs.Units.{handed, run-wide, run-zero, run-none, run-some}
 use borrow.Author.Needs.{needs}
 use Rattle.duckhammock.proofs.duckhammock_run.Statement.{statement}
 use Rattle.duckhammock.proofs.duckhammock_run.Tie as tie
@@ -22,8 +22,19 @@ refused-requires c κs = search needs
 returns : tie.Need-returns
 returns c =
     let a = c .before .before .before .before .before .before .before .before .before .args in
-    run-wide (a .ring .now) (a .limit) (stateAt (a .state .now) (a .xf .now) (a .vertex .now)) (a .state .now)
-    (wide-refused (a .state .now) (a .xf .now) (a .vertex .now) _ (sym (c .before .before .enum-told .given .1) ∙ c .before .before .before .before .read-front .ensures)) (c .refused .ensures) refl
+    let g = wide-refused (a .state .now) (a .xf .now) (a .vertex .now) _ (sym (c .before .before .enum-told .given .1) ∙ c .before .before .before .before .read-front .ensures) in
+    run-wide (a .ring .now) (a .limit) (stateAt (a .state .now) (a .xf .now) (a .vertex .now)) (a .state .now) g (c .refused .ensures) refl
+
+gate-number-requires : tie.Need-gate-number-requires
+gate-number-requires c κs = search needs
+
+returns-2 : tie.Need-returns-2
+returns-2 c =
+    let f = c .before .before .before .before .before in
+    let r = f .before .before in
+    let a = r .before .before .before .before .before .args in
+    let s = handed (a .state .now) (a .xf .now) (a .vertex .now) (sym (f .front .given .1) ∙ r .read-front .ensures) refl refl in
+    rw (← s) (run-zero (a .ring .now) (a .limit) _ (a .state .now) (c .before .before .before .if1 .taken) (c .gate-number .ensures))
 
 cp-requires : tie.Need-cp-requires
 cp-requires c κs = search needs
@@ -46,11 +57,19 @@ same-length c = search needs
 same-length-2 : tie.Need-same-length-2
 same-length-2 c = search needs
 
-returns-2 : tie.Need-returns-2
-returns-2 c =
-    let a = c .before .before .before .before .before .before .before .before .before .before .before .before .before .before .before .before .before .before .before .before .before .before .before .before .args in
-    let s = handed (a .state .now) (a .xf .now) (a .vertex .now) (sym (c .before .before .before .before .before .before .before .before .before .before .before .before .before .before .before .before .before .front .given .1) ∙ c .before .before .before .before .before .before .before .before .before .before .before .before .before .before .before .before .before .before .before .read-front .ensures) (c .before .before .before .before .before .before .before .before .before .before .before .before .before .before .cp .ensures) (c .before .before .before .before .before .before .before .before .before .before .before .before .bp .ensures) in
-    rw (← s) (run-none (a .ring .now) (a .limit) _ (a .state .now) (c .before .before .before .before .before .before .before .run .ensures) (c .stop-number .ensures) (c .before .before .stop-lacking .ensures) refl (c .before .if1 .taken))
+returns-3 : tie.Need-returns-3
+returns-3 c =
+    let p = c .before .before .before .before .before .before .before in
+    let b = p .before .before .before .before .before in
+    let q = b .before .before in
+    let f = q .before .before .before .before in
+    let r = f .before .before in
+    let a = r .before .before .before .before .before .args in
+    let s = handed (a .state .now) (a .xf .now) (a .vertex .now) (sym (f .front .given .1) ∙ r .read-front .ensures)
+    (q .cp .ensures) (b .bp .ensures) in
+    rw (← s)
+    (run-none (a .ring .now) (a .limit) _ (a .state .now) (p .run .ensures) (c .stop-number .ensures) (c .before .before .stop-lacking .ensures) refl
+    (c .before .if2 .taken))
 
 save-requires : tie.Need-save-requires
 save-requires c κs = search needs
@@ -64,11 +83,19 @@ same-length-3 c = search needs
 same-length-4 : tie.Need-same-length-4
 same-length-4 c = search needs
 
-returns-3 : tie.Need-returns-3
-returns-3 c =
-    let a = c .before .before .before .before .before .before .before .before .before .before .before .before .before .before .before .before .before .before .before .before .before .before .before .before .before .before .before .before .before .args in
-    let s = handed (a .state .now) (a .xf .now) (a .vertex .now) (sym (c .before .before .before .before .before .before .before .before .before .before .before .before .before .before .before .before .before .before .before .before .before .before .front .given .1) ∙ c .before .before .before .before .before .before .before .before .before .before .before .before .before .before .before .before .before .before .before .before .before .before .before .before .read-front .ensures) (c .before .before .before .before .before .before .before .before .before .before .before .before .before .before .before .before .before .before .before .cp .ensures) (c .before .before .before .before .before .before .before .before .before .before .before .before .before .before .before .before .before .bp .ensures) in
-    rw (← s) (run-some (a .ring .now) (a .limit) _ (a .state .now) (c .before .before .before .before .before .before .before .before .before .before .before .before .run .ensures) (c .stop-number2 .ensures) (c .before .before .before .before .before .before .before .stop-lacking .ensures) refl (c .before .before .before .before .before .before .if1 .left) (c .before .save .ensures))
+returns-4 : tie.Need-returns-4
+returns-4 c =
+    let p = c .before .before .before .before .before .before .before .before .before .before .before .before in
+    let b = p .before .before .before .before .before in
+    let q = b .before .before in
+    let f = q .before .before .before .before in
+    let r = f .before .before in
+    let a = r .before .before .before .before .before .args in
+    let s = handed (a .state .now) (a .xf .now) (a .vertex .now) (sym (f .front .given .1) ∙ r .read-front .ensures)
+    (q .cp .ensures) (b .bp .ensures) in
+    rw (← s)
+    (run-some (a .ring .now) (a .limit) _ (a .state .now) (p .run .ensures) (c .stop-number2 .ensures) (c .before .before .before .before .before .before .before .stop-lacking .ensures) refl
+    (c .before .before .before .before .before .before .if2 .left) (c .before .save .ensures))
 
 pub duckhammock-run-spec : {M : Type 1} → statement M
 duckhammock-run-spec =
@@ -79,6 +106,8 @@ duckhammock-run-spec =
     enum-told
     refused-requires
     returns
+    gate-number-requires
+    returns-2
     cp-requires
     bp-requires
     run-requires
@@ -86,9 +115,9 @@ duckhammock-run-spec =
     stop-number-requires
     same-length
     same-length-2
-    returns-2
+    returns-3
     save-requires
     stop-number-requires-2
     same-length-3
     same-length-4
-    returns-3)
+    returns-4)

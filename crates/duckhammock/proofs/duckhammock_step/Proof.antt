@@ -22,8 +22,8 @@ refused-requires c κs = search needs
 returns : tie.Need-returns
 returns c =
     let a = c .before .before .before .before .before .before .before .before .args in
-    step-wide (a .ring .now) (stateAt (a .state .now) (a .xf .now) (a .vertex .now)) (a .state .now) (a .unit .now)
-    (wide-refused (a .state .now) (a .xf .now) (a .vertex .now) _ (sym (c .before .enum-told .given .1) ∙ c .before .before .before .read-front .ensures)) (c .refused .ensures) refl
+    let g = wide-refused (a .state .now) (a .xf .now) (a .vertex .now) _ (sym (c .before .enum-told .given .1) ∙ c .before .before .before .read-front .ensures) in
+    step-wide (a .ring .now) (stateAt (a .state .now) (a .xf .now) (a .vertex .now)) (a .state .now) (a .unit .now) g (c .refused .ensures) refl
 
 cp-requires : tie.Need-cp-requires
 cp-requires c κs = search needs
@@ -51,12 +51,19 @@ same-length-2 c = search needs
 
 returns-2 : tie.Need-returns-2
 returns-2 c =
-    let a = c .before .before .before .before .before .before .before .before .before .before .before .before .before .before .before .before .before .before .before .before .before .before .before .before .args in
-    let s = handed (a .state .now) (a .xf .now) (a .vertex .now) (sym (c .before .before .before .before .before .before .before .before .before .before .before .before .before .before .before .before .before .front .given .1) ∙ c .before .before .before .before .before .before .before .before .before .before .before .before .before .before .before .before .before .before .before .read-front .ensures) (c .before .before .before .before .before .before .before .before .before .before .before .before .before .before .cp .ensures) (c .before .before .before .before .before .before .before .before .before .before .before .before .bp .ensures) in
-    rw (← s) (step-none (a .ring .now) _ (a .state .now) (a .unit .now) (c .before .before .before .before .before .before .before .step .ensures) (none _ (c .before .match2 .keys2)) (c .step-number .ensures) (c .before .before .step-lacking .ensures))
+    let p = c .before .before .before .before .before .before .before in
+    let b = p .before .before .before .before .before in
+    let q = b .before .before in
+    let f = q .before .before .before in
+    let r = f .before .before in
+    let a = r .before .before .before .before .before .args in
+    let s = handed (a .state .now) (a .xf .now) (a .vertex .now) (sym (f .front .given .1) ∙ r .read-front .ensures) (q .cp .ensures) (b .bp .ensures) in
+    rw (← s)
+    (step-none (a .ring .now) _ (a .state .now) (a .unit .now) (p .step .ensures) (none _ (c .before .match2 .keys2))
+    (c .step-number .ensures) (c .before .before .step-lacking .ensures))
 
-save-requires : tie.Need-save-requires
-save-requires c κs = search needs
+save-unit-requires : tie.Need-save-unit-requires
+save-unit-requires c κs = search needs
 
 unit-words-requires : tie.Need-unit-words-requires
 unit-words-requires c κs = search needs
@@ -69,9 +76,17 @@ same-length-4 c = search needs
 
 returns-3 : tie.Need-returns-3
 returns-3 c =
-    let a = c .before .before .before .before .before .before .before .before .before .before .before .before .before .before .before .before .before .before .before .before .before .before .before .before .before .before .before .before .before .before .before .args in
-    let s = handed (a .state .now) (a .xf .now) (a .vertex .now) (sym (c .before .before .before .before .before .before .before .before .before .before .before .before .before .before .before .before .before .before .before .before .before .before .before .before .front .given .1) ∙ c .before .before .before .before .before .before .before .before .before .before .before .before .before .before .before .before .before .before .before .before .before .before .before .before .before .before .read-front .ensures) (c .before .before .before .before .before .before .before .before .before .before .before .before .before .before .before .before .before .before .before .before .before .cp .ensures) (c .before .before .before .before .before .before .before .before .before .before .before .before .before .before .before .before .before .before .before .bp .ensures) in
-    rw (← s) (step-done (a .ring .now) _ (a .state .now) (a .unit .now) _ _ _ (c .before .before .before .before .before .before .before .before .before .before .before .before .before .before .step .ensures) (c .before .before .before .before .before .before .before .answer .given .1) (c .before .save .ensures) (c .unit-words .ensures) (c .before .before .before .before .before .before .before .before .before .step-lacking .ensures))
+    let d = c .before .before .before .before .before .before .before in
+    let p = d .before .before .before .before .before .before .before in
+    let b = p .before .before .before .before .before in
+    let q = b .before .before in
+    let f = q .before .before .before in
+    let r = f .before .before in
+    let a = r .before .before .before .before .before .args in
+    let s = handed (a .state .now) (a .xf .now) (a .vertex .now) (sym (f .front .given .1) ∙ r .read-front .ensures) (q .cp .ensures) (b .bp .ensures) in
+    rw (← s)
+    (step-done (a .ring .now) _ (a .state .now) (a .unit .now) _ _ _ (q .cp .ensures) (b .bp .ensures) (p .step .ensures) (d .answer .given .1)
+    (c .before .save-unit .ensures) (c .unit-words .ensures) (d .before .before .step-lacking .ensures))
 
 pub duckhammock-step-spec : {M : Type 1} → statement M
 duckhammock-step-spec =
@@ -91,7 +106,7 @@ duckhammock-step-spec =
     same-length
     same-length-2
     returns-2
-    save-requires
+    save-unit-requires
     unit-words-requires
     same-length-3
     same-length-4

@@ -1,18 +1,19 @@
 -- `processor::tests::cp_fits` meets its contract: the two tests are the definition's.
 use borrow.Author.Needs.{needs}
+use mathlib.Core.Bool.{_&&_}
 use Rattle.processor.specs.Gate.{cpFits}
 use Rattle.processor.proofs.tests.cp_fits.Statement.{statement}
 use Rattle.processor.proofs.tests.cp_fits.Tie as tie
 
-all-below-requires : tie.Need-all-below-requires
-all-below-requires c κs = search needs
+join-requires : tie.Need-join-requires
+join-requires c κs = search needs
 
-all-below-requires-2 : tie.Need-all-below-requires-2
-all-below-requires-2 c κs = search needs
+join-requires-2 : tie.Need-join-requires-2
+join-requires-2 c κs = search needs
 
 returns : tie.Need-returns
 unfolding cpFits
-returns c = rw (c .before .before .all-below .ensures, c .all-below2 .ensures)
+returns c = λ i. c .before .before .join .ensures .below 26 i && c .join2 .ensures .below 8 i
 
 pub cp-fits-spec : {M : Type 1} → statement M
-cp-fits-spec = tie.close (tie.spec all-below-requires all-below-requires-2 returns)
+cp-fits-spec = tie.close (tie.spec join-requires join-requires-2 returns)

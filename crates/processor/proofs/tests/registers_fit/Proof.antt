@@ -15,8 +15,8 @@ all : (bp : List ℕ) (b : Bool) → length bp ≤ 256 → b ≡ allBelow (2 ^ 2
 unfolding bpFits
 all bp b h e = e ∙ ap (allBelow (2 ^ 24)) (take-all 256 bp h)
 
-all-below-requires : tie.Need-all-below-requires
-all-below-requires c κs = search needs
+join-requires : tie.Need-join-requires
+join-requires c κs = search needs
 
 cp-fits-requires : tie.Need-cp-fits-requires
 cp-fits-requires c κs = search needs
@@ -27,9 +27,9 @@ draw-fits-requires c κs = search needs
 returns : tie.Need-returns
 unfolding registersFit
 returns c =
-    let b = all (c .before .before .before .before .args .bp .now) _ (search needs) (c .before .before .all-below .ensures) in
-    rw (b, c .before .cp-fits .ensures, c .draw-fits .ensures)
+    let b = all (c .before .before .before .before .args .bp .now) _ (search needs) (c .before .before .join .ensures .below 24) in
+    λ i. b i && (c .before .cp-fits .ensures i && c .draw-fits .ensures i)
 
 pub registers-fit-spec : {M : Type 1} → statement M
 registers-fit-spec =
-    tie.close (tie.spec all-below-requires cp-fits-requires draw-fits-requires returns)
+    tie.close (tie.spec join-requires cp-fits-requires draw-fits-requires returns)
