@@ -45,12 +45,13 @@ extern "C" {
  * The state's words. Later versions add words only at the end.
  *
  * A word that its field cannot hold is refused by 1 (DUCKHAMMOCK_INVALID_STATE)
- * by the calls that test the field, step and run: a control word above 3F, a
- * draw that is open (its word is 1) with a primitive or format above 7, or with
- * 0 vertices left or more than 65,535, and a word for the open draw that is
- * neither 0 nor 1. Calls that do not test it leave it as it is. While no draw
- * is open, words 8 to 10 are not looked at; a step or a run that does a unit
- * leaves them 0 where no draw is open after it.
+ * by the calls that test the field, step and run: a control word above 3F; a
+ * word for the open draw that is neither 0 (none is open) nor 1; and of a draw
+ * that is open a primitive or format above 7, 0 vertices left, or more than
+ * 65,535. Calls that do not test it answer as ever and leave it as it is; a
+ * status read takes any word for the open draw but 0 as open. While no draw is
+ * open, words 8 to 10 are not looked at, and a step or a run that does a unit
+ * leaves them 0 where none is open after it.
  */
 enum duckhammock_state_word {
     DUCKHAMMOCK_START = 0,

@@ -33,7 +33,7 @@ use Rattle.patch.specs.declared.Checked.{Checked}
 use Rattle.patch.specs.Patch.{Patch, mergedOf}
 use Rattle.patch.specs.Answers as patches
 use Rattle.patch.specs.Merging.{Merges, mergeRefusal}
-use Rattle.words.specs.Told.{firstOf, secondOf, padded}
+use Rattle.encoding.specs.Told.{firstOf, secondOf, padded}
 use Rattle.duckhammock.specs.Formats.{LaysOut, Decoded, KeepsBits, Puts, MergesInto, CountsBytes}
 use Rattle.duckhammock.proofs.Refusals.{stays, stays-number, first-is}
 

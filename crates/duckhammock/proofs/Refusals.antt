@@ -10,7 +10,7 @@ use borrow.Author.Tests.{ne-eqb}
 use Rattle.refusal.specs.Number.{number}
 use Rattle.refusal.specs.declared.Reason.{Reason}
 use Rattle.refusal.proofs.Positive.{number-some}
-use Rattle.words.specs.Told.{firstOf}
+use Rattle.encoding.specs.Told.{firstOf}
 
 pub not-zero : (reason : Reason) {r : ℕ} → r ≡ number reason → eqb r 0 ≡ false
 not-zero reason {r} e =

@@ -31,7 +31,7 @@ use Rattle.processor.specs.Run.{Ended, ended, goneOn, steps, gated, runLimit, r
 use Rattle.words.specs.declared.state.Front.the-variants.{Held, Wide}
 use Rattle.words.specs.State.{fifoOf, drawOf, cpOf, bpOf, stateAt, wordsBy}
 use Rattle.words.specs.Front.{frontOf, unitWords}
-use Rattle.words.specs.Told.{firstOf, secondOf, stepNumber, lackingOf, unitOf}
+use Rattle.encoding.specs.Told.{firstOf, secondOf, stepNumber, lackingOf, unitOf}
 use Rattle.words.proofs.Fits.{held-is, wide-refused}
 use Rattle.duckhammock.specs.Calls.{Lent, lentOf, lentBy, Tells, Ends}
 use Rattle.duckhammock.proofs.Refusals.{not-zero}

@@ -26,7 +26,7 @@ use Rattle.fifo.specs.Window.{validBy, readyBy, accept, withWindow, withControl
 use Rattle.fifo.specs.Registers.{listed, computed, readable, writable, statusOf, valueOf, readAnswer, withRegister, stored, written, writeAnswer}
 use Rattle.processor.specs.State.{drawingOf}
 use Rattle.words.specs.State.{windowOf, fifoOf, drawOf, leftOf, windowWords, withFifo}
-use Rattle.words.specs.Told.{firstOf, secondOf}
+use Rattle.encoding.specs.Told.{firstOf, secondOf}
 use Rattle.duckhammock.specs.Calls.{readingOf, Reads, Writes, Feeds}
 use Rattle.duckhammock.proofs.Refusals.{not-zero, stays, stays-number}
 

@@ -14,7 +14,7 @@ use Rattle.processor.specs.State.{State, drawingOf}
 use Rattle.processor.specs.Step.{stepFound, stepOf}
 use Rattle.processor.specs.Run.{Ended}
 use Rattle.words.specs.State.{fifoOf, drawOf, wordsOf, withFifo}
-use Rattle.words.specs.Told.{firstOf, secondOf, stepNumber, lackingOf, unitOf}
+use Rattle.encoding.specs.Told.{firstOf, secondOf, stepNumber, lackingOf, unitOf}
 
 -- the answer of a hardware register read
 abbrev pub readingOf : List ℕ → ℕ → List ℕ

@@ -18,7 +18,7 @@ use Rattle.patch.specs.Patch.{Patch, mergedOf}
 use Rattle.patch.specs.Commands.{patchBytes}
 use Rattle.patch.specs.Answers.{writeRefusal}
 use Rattle.patch.specs.Merging.{mergeRefusal}
-use Rattle.words.specs.Told.{firstOf, secondOf, padded}
+use Rattle.encoding.specs.Told.{firstOf, secondOf, padded}
 
 -- a vertex laid out: the bytes of each attribute, the sums of those before it, and the length
 pub record LaysOut (d : Descriptor) (sizes offsets : List ℕ) (bytes r : ℕ) (sizes' offsets' : List ℕ) (bytes' : ℕ) : Type 0 where

@@ -3,7 +3,7 @@ use crate::refused;
 use layout::LayoutAnswer;
 use vertex::Answer;
 use vertex::RawAnswer;
-ghost use Rattle.words.specs.Told.{descriptorOf};
+ghost use Rattle.encoding.specs.Told.{descriptorOf};
 ghost use Rattle.duckhammock.specs.Formats.{LaysOut, Decoded, KeepsBits};
 
 // The layout of a vertex: each attribute's bytes, the sum of those before it, and the length.
@@ -17,7 +17,7 @@ pub extern "C" fn duckhammock_lay_out(
     ensures { λ r. ⌜ LaysOut (descriptorOf (now (format .entry))) (now (sizes .entry)) (now (offsets .entry)) (now (length .entry))
         r (now (sizes .exit)) (now (offsets .exit)) (now (length .exit)) ⌝ }
 {
-    let laid = layout::lay_out(words::descriptor(format));
+    let laid = layout::lay_out(encoding::descriptor(format));
     let bytes = laid.sizes;
     let before = laid.offsets;
     let answer = laid.answer;
@@ -41,11 +41,11 @@ pub extern "C" fn duckhammock_decode(
     ensures { λ r. ⌜ Decoded (descriptorOf (now (format .entry))) attribute (now (vertex .entry)) (now (values .entry))
         r (now (values .exit)) ⌝ }
 {
-    let decoded = vertex::decode(words::descriptor(format), attribute as usize, vertex);
+    let decoded = vertex::decode(encoding::descriptor(format), attribute as usize, vertex);
     match decoded {
         Answer::Refused(reason) => refused(reason),
         Answer::Done(is) => {
-            *values = words::attribute_words(is);
+            *values = encoding::attribute_words(is);
             0
         }
     }
@@ -62,13 +62,13 @@ pub extern "C" fn duckhammock_raw_words(
     ensures { λ r. ⌜ KeepsBits (descriptorOf (now (format .entry))) attribute (now (vertex .entry)) (now (values .entry))
         r (now (values .exit)) ⌝ }
 {
-    let raw = vertex::raw_words(words::descriptor(format), attribute as usize, vertex);
+    let raw = vertex::raw_words(encoding::descriptor(format), attribute as usize, vertex);
     let answer = raw.answer;
     let list = raw.words;
     match answer {
         RawAnswer::Refused(reason) => refused(reason),
         RawAnswer::Count(count) => {
-            *values = words::raw_list(count, list);
+            *values = encoding::raw_list(count, list);
             0
         }
     }

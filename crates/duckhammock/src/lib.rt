@@ -141,19 +141,19 @@ pub extern "C" fn duckhammock_step(
     let mut bp = words::bp(state);
     let stepped = processor::step(fifo, &mut cp, &mut bp, draw, ring, xf, vertex);
     let answer = stepped.answer;
-    *lacking = words::step_lacking(answer);
+    *lacking = encoding::step_lacking(answer);
     let StepAnswer::Done {
         command,
         memory,
         length,
     } = answer
     else {
-        return words::step_number(answer);
+        return encoding::step_number(answer);
     };
     let after = stepped.fifo;
     let left = stepped.draw;
     words::save_unit(state, command, after, &cp, &bp, left);
-    *unit = words::unit_words(command, memory, length);
+    *unit = encoding::unit_words(command, memory, length);
     0
 }
 
@@ -205,13 +205,13 @@ pub extern "C" fn duckhammock_run(
     let ran = processor::run(fifo, &mut cp, &mut bp, draw, ring, xf, vertex, limit);
     let stop = ran.stop;
     let units = ran.units;
-    let told = [units, words::stop_lacking(stop)];
+    let told = [units, encoding::stop_lacking(stop)];
     *report = told;
     if units == 0 {
-        return words::stop_number(stop);
+        return encoding::stop_number(stop);
     }
     let last = ran.fifo;
     let left = ran.draw;
     words::save(state, last, &cp, &bp, left);
-    words::stop_number(stop)
+    encoding::stop_number(stop)
 }

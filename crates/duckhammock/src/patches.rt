@@ -5,7 +5,7 @@ use writer::Written;
 ghost use mathlib.Core.Path.{_≡_};
 ghost use Rattle.patch.specs.Patch.{patchOf, faultOf};
 ghost use Rattle.patch.specs.Answers.{meaning};
-ghost use Rattle.words.specs.Named.{commandNamed};
+ghost use Rattle.encoding.specs.Named.{commandNamed};
 ghost use Rattle.duckhammock.specs.Formats.{CountsBytes, PutsCommand, PutsPatch, MergesInto};
 
 // The number of a check's answer.
@@ -42,7 +42,7 @@ pub extern "C" fn duckhammock_write_command(
     ensures { λ r. ⌜ PutsCommand (commandNamed (now (command .entry))) (now (lent .entry)) (now (output .entry)) (now (written .entry))
         r (now (output .exit)) (now (written .exit)) ⌝ }
 {
-    let answer = writer::write(words::command(command), lent, output);
+    let answer = writer::write(encoding::command(command), lent, output);
     tell_bytes(answer, written)
 }
 

@@ -2,12 +2,12 @@
 use mathlib.Core.Path.{_≡_, refl, sym, ap, _∙_, subst}
 use mathlib.Core.List.{List, [], _∷_, _++_}
 use mathlib.Core.Logic.{inl, inr}
-use Prim.Native.Nat.{ℕ, zero, suc, _+_, _<_}
+use Prim.Native.Nat.{ℕ, zero, suc, _+_, _<_, _≤_}
 use native.Mathlib.Nat.{le-of-eq, eq-or-lt-of-le, le-of-suc-le-suc, not-suc-le-zero, add-zero}
 use native.Mathlib.Numerals.{add-one}
 use native.Mathlib.Omega.{arith}
 use lib.ListN.{length, take, set, getD, length-append, List·getD-append}
-use lib.Seq.{take-suc-set, take-all, getD-append-add}
+use lib.Seq.{ext-getD, take-suc-set, take-all, length-take-le, getD-take, getD-append-add}
 use Rattle.laws.specs.Values.{upTo}
 
 pub length-upTo : (f : ℕ → ℕ) (n : ℕ) → length (upTo f n) ≡ n
@@ -43,3 +43,11 @@ fill-next f l i v h e q =
 pub fill-all : (f : ℕ → ℕ) (l : List ℕ) (n i : ℕ) → length l ≡ n → i ≡ n → take i l ≡ upTo f i → l ≡ upTo f n
 fill-all f l n i h e t =
     sym (take-all n l (le-of-eq h)) ∙ subst (λ (k : ℕ). take k l ≡ upTo f k) e t
+
+-- the first n elements of a list one by one
+pub firsts : (n : ℕ) (l : List ℕ) → n ≤ length l → take n l ≡ upTo (λ i. getD l i 0) n
+firsts n l h =
+    let f : ℕ → ℕ = λ i. getD l i 0 in
+    let k : length (take n l) ≡ n = length-take-le n l h in
+    ext-getD 0 (take n l) (upTo f n) (k ∙ sym (length-upTo f n))
+    (λ i m. let b : i < n = subst (λ (x : ℕ). i < x) k m in getD-take n l i 0 b ∙ sym (getD-upTo f n i b))

@@ -1,31 +1,15 @@
--- The first words of a list one by one, and with one of them stored.
-use mathlib.Core.Path.{_≡_, refl, sym, ap, _∙_, subst}
+-- The fifo's words one by one, and with some of them stored.
+use mathlib.Core.Path.{_≡_, sym, ap, _∙_}
 use mathlib.Core.List.{List, [], _∷_, _++_}
-use Prim.Native.Nat.{ℕ, _≤_, _<_}
-use native.Mathlib.Nat.{le-of-eq}
+use Prim.Native.Nat.{ℕ}
 use native.Mathlib.Omega.{arith}
-use lib.ListN.{length, getD, take, drop, take-append-drop}
-use lib.Seq.{ext-getD, length-take-le, getD-take, take-all}
+use lib.ListN.{length, drop, take-append-drop}
 use Rattle.laws.specs.Values.{upTo}
-use Rattle.laws.proofs.Filled.{length-upTo, getD-upTo}
+use Rattle.laws.proofs.Filled.{firsts}
 use Rattle.fifo.specs.declared.Window.{Window}
 use Rattle.fifo.specs.Feeding.{put}
 use Rattle.fifo.specs.Window.{withWindow, withWrite, withControl}
 use Rattle.words.specs.State.{fifoOf, windowOf, fifoWords, windowWords, withFifo}
-
--- the first n elements one by one
-firsts : (n : ℕ) (l : List ℕ) → n ≤ length l → take n l ≡ upTo (λ i. getD l i 0) n
-firsts n l h =
-    let f : ℕ → ℕ = λ i. getD l i 0 in
-    let k : length (take n l) ≡ n = length-take-le n l h in
-    ext-getD 0 (take n l) (upTo f n) (k ∙ sym (length-upTo f n))
-    (λ i m. let b : i < n = subst (λ (x : ℕ). i < x) k m in getD-take n l i 0 b ∙ sym (getD-upTo f n i b))
-
--- nine words
-pub nine : (l : List ℕ) → length l ≡ 9
-    → getD l 0 0 ∷ getD l 1 0 ∷ getD l 2 0 ∷ getD l 3 0 ∷ getD l 4 0 ∷ getD l 5 0 ∷ getD l 6 0 ∷ getD l 7 0 ∷ getD l 8 0 ∷ [] ≡ l
-unfolding upTo
-nine l h = sym (firsts 9 l (le-of-eq (sym h))) ∙ take-all 9 l (le-of-eq h)
 
 module _ (l : List ℕ) (long : length l ≡ 327) where
   -- the fifo's words, and the rest

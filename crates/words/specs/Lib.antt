@@ -1,4 +1,2 @@
 pub mod State
-pub mod Told
-pub mod Named
 pub mod Front

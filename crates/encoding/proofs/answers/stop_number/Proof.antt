@@ -1,0 +1,41 @@
+-- `encoding::answers::stop_number` meets its contract: in each arm the answer is known, and the definition computes.
+use borrow.Author.Needs.{needs}
+use Rattle.encoding.proofs.answers.stop_number.Statement.{statement}
+use Rattle.encoding.proofs.answers.stop_number.Tie as tie
+
+enum-told : tie.Need-enum-told
+enum-told c = search needs
+
+enum-told-2 : tie.Need-enum-told-2
+enum-told-2 c = search needs
+
+enum-known-stop : tie.Need-enum-known-stop
+enum-known-stop c = search needs
+
+number-requires : tie.Need-number-requires
+number-requires c κs = search needs
+
+cast-result : tie.Need-cast-result
+cast-result c = search needs
+
+returns : tie.Need-returns
+returns c = search needs
+
+returns-2 : tie.Need-returns-2
+returns-2 c = search needs
+
+returns-3 : tie.Need-returns-3
+returns-3 c = rw (c .before .before .stop .given .1) (c .number .ensures)
+
+pub stop-number-spec : {M : Type 1} → statement M
+stop-number-spec =
+    tie.close
+    (tie.spec
+    enum-told
+    enum-told-2
+    enum-known-stop
+    number-requires
+    cast-result
+    returns
+    returns-2
+    returns-3)

@@ -1,0 +1,118 @@
+// The command that five words name; a vertex, which is never written, where they name none.
+use command::Command;
+ghost use mathlib.Core.Path.{_≡_};
+ghost use Rattle.command.specs.Command.{numbersOf};
+ghost use Rattle.encoding.specs.Named.{cpNamed, xfNamed, indexedNamed, bpNamed, drawNamed, commandBy, commandNamed};
+
+// 08
+fn load_cp(address: u32, number: u32) -> Command
+    ensures { λ r. ⌜ numbersOf r ≡ cpNamed address number ⌝ }
+{
+    if 256 <= address {
+        return Command::Vertex;
+    }
+    Command::LoadCp {
+        address: address as u8,
+        number,
+    }
+}
+
+// 10
+fn load_xf(words: u32, address: u32) -> Command
+    ensures { λ r. ⌜ numbersOf r ≡ xfNamed words address ⌝ }
+{
+    if 256 <= words {
+        return Command::Vertex;
+    }
+    if 0x10000 <= address {
+        return Command::Vertex;
+    }
+    Command::LoadXf {
+        words: words as u8,
+        address: address as u16,
+    }
+}
+
+// 20, 28, 30, 38
+fn load_indexed(array: u8, index: u32, words: u32, address: u32) -> Command
+    ensures { λ r. ⌜ numbersOf r ≡ indexedNamed array index words address ⌝ }
+{
+    if 0x10000 <= index {
+        return Command::Vertex;
+    }
+    if 256 <= words {
+        return Command::Vertex;
+    }
+    if 0x10000 <= address {
+        return Command::Vertex;
+    }
+    Command::LoadIndexed {
+        array,
+        index: index as u16,
+        words: words as u8,
+        address: address as u16,
+    }
+}
+
+// 61
+fn load_bp(register: u32, number: u32) -> Command
+    ensures { λ r. ⌜ numbersOf r ≡ bpNamed register number ⌝ }
+{
+    if 256 <= register {
+        return Command::Vertex;
+    }
+    Command::LoadBp {
+        register: register as u8,
+        number,
+    }
+}
+
+// 80
+fn draw_head(primitive: u32, format: u32, count: u32) -> Command
+    ensures { λ r. ⌜ numbersOf r ≡ drawNamed primitive format count ⌝ }
+{
+    if 256 <= primitive {
+        return Command::Vertex;
+    }
+    if 256 <= format {
+        return Command::Vertex;
+    }
+    if 0x10000 <= count {
+        return Command::Vertex;
+    }
+    Command::DrawHead {
+        primitive: primitive as u8,
+        format: format as u8,
+        count: count as u16,
+    }
+}
+
+// By the kind.
+fn command_by(kind: u32, a: u32, b: u32, c: u32) -> Command
+    ensures { λ r. ⌜ numbersOf r ≡ commandBy kind a b c ⌝ }
+{
+    match kind {
+        0x00 => Command::NoOperation,
+        0x48 => Command::InvalidateCache,
+        0x68 => Command::Metrics,
+        0x08 => load_cp(a, b),
+        0x10 => load_xf(a, b),
+        0x20 => load_indexed(12, a, b, c),
+        0x28 => load_indexed(13, a, b, c),
+        0x30 => load_indexed(14, a, b, c),
+        0x38 => load_indexed(15, a, b, c),
+        0x40 => Command::CallList {
+            address: a,
+            size: b,
+        },
+        0x61 => load_bp(a, b),
+        0x80 => draw_head(a, b, c),
+        _ => Command::Vertex,
+    }
+}
+
+pub fn command(words: &[u32; 5]) -> Command
+    ensures { λ r. ⌜ numbersOf r ≡ commandNamed (now (words .entry)) ⌝ }
+{
+    command_by(words[0], words[1], words[2], words[3])
+}

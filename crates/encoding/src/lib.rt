@@ -1,0 +1,14 @@
+// Answers, commands and vertex formats as words of 32 bits: what crosses to C and Rust beside the state.
+mod answers;
+mod attributes;
+mod commands;
+
+pub use answers::step_lacking;
+pub use answers::step_number;
+pub use answers::stop_lacking;
+pub use answers::stop_number;
+pub use answers::unit_words;
+pub use attributes::attribute_words;
+pub use attributes::descriptor;
+pub use attributes::raw_list;
+pub use commands::command;
