@@ -3,17 +3,23 @@
  *
  * The caller keeps the state, 327 words, and lends it with the ring, the XF
  * words and the vertex buffer for the time of one call. Nothing is kept between
- * calls and nothing is allocated. What is lent to one call must not overlap,
- * and a pointer must not be null, also where its length is 0.
+ * calls and nothing is allocated. A length counts elements: words of a word
+ * pointer, bytes of a byte pointer. What a call may change must not overlap with
+ * anything else that is lent to it (a merge is never in place), and a pointer
+ * must not be null, also where its length is 0.
  *
- * A function returns 0 where the call was accepted, a unit was done or the
- * limit was reached, DUCKHAMMOCK_WAITING, or the number of a refusal. It never
- * returns otherwise, whatever the state words, lengths and bytes are.
+ * A function always returns, and only so, whatever the state words, lengths and
+ * bytes are: 0 where the call was accepted, a unit was done or the limit was
+ * reached, DUCKHAMMOCK_WAITING, or the number of a refusal; where several apply,
+ * the first in the order that its comment gives them. (duckhammock_fresh returns
+ * nothing.)
  *
  * A refused or waiting call changes nothing: no state word, ring byte, XF word
- * or vertex byte, and nothing of what was lent for its values. Only a report is
- * told whatever the answer: a step's bytes lacking, and a run's units and bytes
- * lacking. An accepted call changes what its comment says and nothing else.
+ * or vertex byte, and nothing of what was lent for its values. A step that waits
+ * tells in *lacking how many bytes the unit lacks, and nothing else. A run keeps
+ * the units that it did before one was refused or waits, and that one changes
+ * nothing; its report is told whatever the answer. An accepted call changes what
+ * its comment says and nothing else.
  */
 #ifndef DUCKHAMMOCK_H
 #define DUCKHAMMOCK_H
@@ -29,10 +35,12 @@ extern "C" {
 #define DUCKHAMMOCK_XF_WORDS 4184
 /* The shortest vertex buffer, and the longest vertex. */
 #define DUCKHAMMOCK_VERTEX_BYTES 129
-/* The attributes of a vertex, and the words that give its format: VCD 0 and 1,
- * VAT 0 to 2. */
+/* The attributes of a vertex, and the words that give its format: groups 0 and 1
+ * of the VCD, and groups 0 to 2 of one format's VAT. */
 #define DUCKHAMMOCK_ATTRIBUTES 21
 #define DUCKHAMMOCK_FORMAT_WORDS 5
+/* What an attribute decodes to: its kind and nine values. */
+#define DUCKHAMMOCK_VALUE_WORDS 10
 /* The masks of a patch, and its numbers: one for each BP register. */
 #define DUCKHAMMOCK_PATCH_ENTRIES 256
 /* The longest command, an XF load of 16 words, and the longest patch. */
@@ -42,16 +50,19 @@ extern "C" {
 #define DUCKHAMMOCK_MOST_UNITS 65535
 
 /*
- * The state's words. Later versions add words only at the end.
+ * The state's words. Later versions add words only at the end, and raise
+ * DUCKHAMMOCK_STATE_WORDS.
  *
  * A word that its field cannot hold is refused by 1 (DUCKHAMMOCK_INVALID_STATE)
- * by the calls that test the field, step and run: a control word above 3F; a
- * word for the open draw that is neither 0 (none is open) nor 1; and of a draw
- * that is open a primitive or format above 7, 0 vertices left, or more than
- * 65,535. Calls that do not test it answer as ever and leave it as it is; a
- * status read takes any word for the open draw but 0 as open. While no draw is
- * open, words 8 to 10 are not looked at, and a step or a run that does a unit
- * leaves them 0 where none is open after it.
+ * by the calls that test the field, step and run: a control word above 3F; a BP
+ * register above FFFFFF; an array base above 3FFFFFF or stride above FF; a word
+ * for the open draw that is neither 0 (none is open) nor 1; and of a draw that is
+ * open a primitive or format above 7, 0 vertices left, or more than 65,535. A
+ * feed and the register calls do not test it and leave it as it is, but that a
+ * write of the control register replaces its word; a status read takes any word
+ * for the open draw but 0 as open. While no draw is open, words 8 to 10 are not
+ * looked at, and a step or a run that does a unit leaves them 0 where none is
+ * open after it.
  */
 enum duckhammock_state_word {
     DUCKHAMMOCK_START = 0,
@@ -154,19 +165,20 @@ enum duckhammock_bit {
 
 /*
  * The kinds of commands, and what their words a, b, c and d are; those not
- * named are 0 where a unit is told, and not looked at where one is written.
+ * named are 0 where a unit is told, and not looked at where one is written. The
+ * ranges in brackets are those of a command to write; other numbers give 18.
  */
 enum duckhammock_kind {
     DUCKHAMMOCK_KIND_NO_OPERATION = 0x00,
     /* A vertex of the open draw; its bytes are at the front of the vertex
-     * buffer. */
+     * buffer. It is never written. */
     DUCKHAMMOCK_KIND_VERTEX = 0x01,
-    /* a address, b number */
+    /* a address [8 bits, then 7], b number */
     DUCKHAMMOCK_KIND_LOAD_CP = 0x08,
-    /* a words, b address */
+    /* a words [1 to 16], b address [16 bits, then 8] */
     DUCKHAMMOCK_KIND_LOAD_XF = 0x10,
-    /* Arrays 12 to 15: a index, b words, c XF address, d memory address (not
-     * looked at where one is written). */
+    /* Arrays 12 to 15: a index [16 bits], b words [1 to 16], c XF address [12
+     * bits], d memory address [not looked at]. */
     DUCKHAMMOCK_KIND_LOAD_INDEXED_12 = 0x20,
     DUCKHAMMOCK_KIND_LOAD_INDEXED_13 = 0x28,
     DUCKHAMMOCK_KIND_LOAD_INDEXED_14 = 0x30,
@@ -174,14 +186,14 @@ enum duckhammock_kind {
     /* a address, b size */
     DUCKHAMMOCK_KIND_CALL_LIST = 0x40,
     DUCKHAMMOCK_KIND_INVALIDATE_CACHE = 0x48,
-    /* a register, b number */
+    /* a register [8 bits], b number [24 bits] */
     DUCKHAMMOCK_KIND_LOAD_BP = 0x61,
     DUCKHAMMOCK_KIND_METRICS = 0x68,
-    /* a primitive, b format, c vertex count */
+    /* a primitive [0 to 7], b format [0 to 7], c vertex count [16 bits] */
     DUCKHAMMOCK_KIND_DRAW = 0x80
 };
 
-/* The words of a command, and of a unit, which has its bytes as a sixth. */
+/* The words of a command, and of a unit, whose sixth is how many bytes it has. */
 enum duckhammock_command_word {
     DUCKHAMMOCK_COMMAND_KIND = 0,
     DUCKHAMMOCK_COMMAND_A = 1,
@@ -189,11 +201,12 @@ enum duckhammock_command_word {
     DUCKHAMMOCK_COMMAND_C = 3,
     DUCKHAMMOCK_COMMAND_D = 4,
     DUCKHAMMOCK_COMMAND_WORDS = 5,
-    DUCKHAMMOCK_UNIT_BYTES = 5,
+    DUCKHAMMOCK_UNIT_LENGTH = 5,
     DUCKHAMMOCK_UNIT_WORDS = 6
 };
 
-/* The words of a run's report. */
+/* The words of a run's report: how many units were done, and how many bytes are
+ * lacking where it waits, else 0. */
 enum duckhammock_report_word {
     DUCKHAMMOCK_REPORT_UNITS = 0,
     DUCKHAMMOCK_REPORT_LACKING = 1,
@@ -239,33 +252,34 @@ enum duckhammock_value {
     /* Three floats. */
     DUCKHAMMOCK_VALUE_NORMAL = 7,
     /* Nine floats. */
-    DUCKHAMMOCK_VALUE_NORMAL_OF_NINE = 8,
-    /* The kind and nine values. */
-    DUCKHAMMOCK_VALUE_WORDS = 10
+    DUCKHAMMOCK_VALUE_NORMAL_OF_NINE = 8
 };
 
 /* The fresh state. */
 void duckhammock_fresh(uint32_t state[DUCKHAMMOCK_STATE_WORDS]);
 
-/* Reads a 16-bit hardware register. The control register is read as its state
- * word holds it, also where that is wider. */
+/* Reads a 16-bit hardware register: 17, and of status and count 1. The control
+ * register is read as its state word holds it, also where that is wider. */
 uint32_t duckhammock_read_register(const uint32_t state[DUCKHAMMOCK_STATE_WORDS],
                                    uint16_t offset, uint32_t *value);
 
-/* Writes a 16-bit hardware register: one state word of 0 to 6 changes. */
+/* Writes a 16-bit hardware register: 17 alone. At most one state word of 0 to 6
+ * changes. */
 uint32_t duckhammock_write_register(uint32_t state[DUCKHAMMOCK_STATE_WORDS],
                                     uint16_t offset, uint16_t value);
 
-/* Feeds bytes to the ring at the write pointer: the fed places and the write
- * pointer's state word change. */
+/* Feeds bytes to the ring at the write pointer: 1, 11. The fed places and the
+ * write pointer's state word change. */
 uint32_t duckhammock_feed(uint32_t state[DUCKHAMMOCK_STATE_WORDS],
                           uint8_t *ring, size_t ring_len,
                           const uint8_t *bytes, size_t bytes_len);
 
 /*
- * Takes one unit. Where it was done, the state words are those of the state
- * after it, and unit tells the command's five words and the unit's bytes. The
- * bytes lacking are told whatever the answer, 0 unless it is waiting.
+ * Takes one unit: 1 to 10, or waiting. Where it was done, the state words are
+ * those of the state after it, an XF load has stored its words in xf, a vertex's
+ * bytes stand at the front of vertex and the rest of that stays, and unit tells
+ * the command's five words and how many bytes the unit has. Where it waits,
+ * *lacking is how many bytes the unit lacks; else it stays.
  */
 uint32_t duckhammock_step(uint32_t state[DUCKHAMMOCK_STATE_WORDS],
                           const uint8_t *ring, size_t ring_len,
@@ -275,9 +289,10 @@ uint32_t duckhammock_step(uint32_t state[DUCKHAMMOCK_STATE_WORDS],
                           uint32_t *lacking);
 
 /*
- * Takes units until the limit, waiting or a refusal. The report, told whatever
- * the answer: the units done, and the bytes lacking, 0 unless it waits. Where
- * units were done, the state words are those of the state after them.
+ * Takes units until the limit, waiting or a refusal, 1 to 10, the limit tested
+ * first; a run of limit 0 still gives 1 to 5. The report is told whatever the
+ * answer. Where units were done, state words, xf and vertex are as those units
+ * leave them, one step after the other.
  */
 uint32_t duckhammock_run(uint32_t state[DUCKHAMMOCK_STATE_WORDS],
                          const uint8_t *ring, size_t ring_len,
@@ -287,8 +302,8 @@ uint32_t duckhammock_run(uint32_t state[DUCKHAMMOCK_STATE_WORDS],
                          uint32_t report[DUCKHAMMOCK_REPORT_WORDS]);
 
 /*
- * The layout of a vertex: the bytes of each attribute, 0 where it is absent,
- * the sum of those before it, and the length of the vertex.
+ * The layout of a vertex: 9, 10. It tells how many bytes each attribute has, 0
+ * where it is absent, the sum of those before it, and the length of the vertex.
  */
 uint32_t duckhammock_lay_out(const uint32_t format[DUCKHAMMOCK_FORMAT_WORDS],
                              uint8_t sizes[DUCKHAMMOCK_ATTRIBUTES],
@@ -296,10 +311,10 @@ uint32_t duckhammock_lay_out(const uint32_t format[DUCKHAMMOCK_FORMAT_WORDS],
                              uint32_t *length);
 
 /*
- * Decodes one attribute of a vertex of the layout's length: the kind (enum
- * duckhammock_value) and nine values, 0 where unused. A float is told by its
- * bits, every NaN as 7FC00000 (hex): duckhammock_raw_words keeps a NaN's
- * pattern.
+ * Decodes one attribute of a vertex of the layout's length: 9, 10, 19. It tells
+ * the kind (enum duckhammock_value) and nine values, 0 where unused. A float is
+ * told by its bits, every NaN as 7FC00000 (hex): duckhammock_raw_words keeps a
+ * NaN's pattern.
  */
 uint32_t duckhammock_decode(const uint32_t format[DUCKHAMMOCK_FORMAT_WORDS],
                             uint32_t attribute,
@@ -308,8 +323,8 @@ uint32_t duckhammock_decode(const uint32_t format[DUCKHAMMOCK_FORMAT_WORDS],
 
 /*
  * The f32 components of one attribute as their bits stand in the vertex, a
- * NaN's too: how many there are, 0 where the attribute has none, then nine
- * words, 0 where unused.
+ * NaN's too: 9, 10, 19. It tells how many there are, 0 where the attribute has
+ * none, then nine words, 0 where unused.
  */
 uint32_t duckhammock_raw_words(const uint32_t format[DUCKHAMMOCK_FORMAT_WORDS],
                                uint32_t attribute,
@@ -317,9 +332,9 @@ uint32_t duckhammock_raw_words(const uint32_t format[DUCKHAMMOCK_FORMAT_WORDS],
                                uint32_t values[DUCKHAMMOCK_VALUE_WORDS]);
 
 /*
- * Writes one command to the front of the output and tells its bytes. An XF
- * load's words are lent beside it, as many as it names; for other commands they
- * are not looked at.
+ * Writes one command to the front of the output, and to *written how many bytes
+ * that were: 18, 7, 8, 16. An XF load's words are lent beside it, as many as it
+ * names; for other commands they are not looked at.
  */
 uint32_t duckhammock_write_command(const uint32_t command[DUCKHAMMOCK_COMMAND_WORDS],
                                    const uint32_t *words, size_t words_len,
@@ -331,8 +346,9 @@ uint32_t duckhammock_write_command(const uint32_t command[DUCKHAMMOCK_COMMAND_WO
 uint32_t duckhammock_check_patch(const uint32_t *masks, size_t masks_len,
                                  const uint32_t *numbers, size_t numbers_len);
 
-/* Merges patch b into patch a, into the last two; where both name a bit, it is
- * b's. */
+/* Merges the patches a and b into masks and numbers, 256 entries each too: the
+ * bits that either names, b's where both do; every other bit of a number is 0.
+ * 12 for any of the three, then a's faults, then b's. */
 uint32_t duckhammock_merge_patches(const uint32_t *a_masks, size_t a_masks_len,
                                    const uint32_t *a_numbers, size_t a_numbers_len,
                                    const uint32_t *b_masks, size_t b_masks_len,
@@ -340,8 +356,9 @@ uint32_t duckhammock_merge_patches(const uint32_t *a_masks, size_t a_masks_len,
                                    uint32_t *masks, size_t masks_len,
                                    uint32_t *numbers, size_t numbers_len);
 
-/* Writes a patch as commands to the front of the output and tells its bytes:
- * for each mask that is not 0 a load of register FE and one of the register. */
+/* Writes a patch as commands to the front of the output, and to *written how
+ * many bytes that were: 12 to 16. For each mask that is not 0 it is a load of
+ * register FE and one of the register. */
 uint32_t duckhammock_write_patch(const uint32_t *masks, size_t masks_len,
                                  const uint32_t *numbers, size_t numbers_len,
                                  uint8_t *output, size_t output_len,

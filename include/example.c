@@ -10,15 +10,15 @@
 #include <stdio.h>
 #include <stdlib.h>
 
-enum { RING_START = 0x1000, RING_BYTES = 256, HALF_BITS = 16, NO_WORDS = 0, FIRST = 0 };
+enum { RING_START = 0x1000, RING_BYTES = 256, HALF_BITS = 16, NO_WORDS = 0, FRONT = 0 };
 /* A draw of one vertex: a direct position of three unsigned bytes. */
 enum { CP_VCD_0 = 0x50, CP_VAT_0 = 0x70, DIRECT_POSITION = 0x200, THREE_BYTES = 0x1 };
 enum { TRIANGLES = 2, FORMAT = 0, VERTICES = 1, X = 1, Y = 2, Z = 3, AXES = 3 };
 enum { ONE = 0x3F800000, TWO = 0x40000000, THREE = 0x40400000 }; /* f32 by their bits */
 enum { VALUE_KIND, VALUE_X, VALUE_Y, VALUE_Z };
-/* Elin's four bits of a register, and a colleague's four. */
+/* Two people's corrections of one BP register: four bits each. */
 enum { REGISTER = 0x41, MASK_REGISTER = 0xFE, EVERY_BIT = 0xFFFFFF };
-enum { ELINS_MASK = 0x0F, ELINS_NUMBER = 0x05, THEIR_MASK = 0xF0, THEIR_NUMBER = 0x30 };
+enum { FIRST_MASK = 0x0F, FIRST_NUMBER = 0x05, SECOND_MASK = 0xF0, SECOND_NUMBER = 0x30 };
 enum { MERGED_MASK = 0xFF, MERGED_NUMBER = 0x35, BEFORE = 0x123456, AFTER = 0x123435 };
 /* The commands and the vertex; the loads of two patches; those of BEFORE and of one. */
 enum { COMMAND_UNITS = 5, TWO_PATCHES_UNITS = 4, MERGED_UNITS = 3 };
@@ -34,8 +34,8 @@ static const uint32_t commands[][DUCKHAMMOCK_COMMAND_WORDS] = {
     { DUCKHAMMOCK_KIND_DRAW, TRIANGLES, FORMAT, VERTICES }
 };
 static const uint8_t bytes_of_vertex[AXES] = { X, Y, Z };
-static const patch elins = { { [REGISTER] = ELINS_MASK }, { [REGISTER] = ELINS_NUMBER } };
-static const patch theirs = { { [REGISTER] = THEIR_MASK }, { [REGISTER] = THEIR_NUMBER } };
+static const patch first = { { [REGISTER] = FIRST_MASK }, { [REGISTER] = FIRST_NUMBER } };
+static const patch second = { { [REGISTER] = SECOND_MASK }, { [REGISTER] = SECOND_NUMBER } };
 
 static uint32_t state[DUCKHAMMOCK_STATE_WORDS], xf[DUCKHAMMOCK_XF_WORDS], written, units;
 static uint8_t ring[RING_BYTES], vertex[DUCKHAMMOCK_VERTEX_BYTES], output[DUCKHAMMOCK_PATCH_BYTES];
@@ -87,7 +87,7 @@ static void step_through(void)
     while ((answer = duckhammock_step(state, LENT, unit, &lacking)) == DUCKHAMMOCK_DONE) {
         printf("step: kind %02" PRIX32 ", %" PRIX32 " %" PRIX32 ", %" PRIu32 " bytes\n",
                unit[DUCKHAMMOCK_COMMAND_KIND], unit[DUCKHAMMOCK_COMMAND_A],
-               unit[DUCKHAMMOCK_COMMAND_B], unit[DUCKHAMMOCK_UNIT_BYTES]);
+               unit[DUCKHAMMOCK_COMMAND_B], unit[DUCKHAMMOCK_UNIT_LENGTH]);
         units++;
     }
     expect("last step", answer, DUCKHAMMOCK_WAITING);
@@ -129,20 +129,20 @@ int main(void)
     write_word(DUCKHAMMOCK_OFFSET_READ_POINTER, RING_START);
     done("control", duckhammock_write_register(state, DUCKHAMMOCK_OFFSET_CONTROL,
                                                DUCKHAMMOCK_CONTROL_READ_ENABLE));
-    for (size_t at = FIRST; at < sizeof commands / sizeof *commands; at++)
+    for (size_t at = FRONT; at < sizeof commands / sizeof *commands; at++)
         feed_command(commands[at]);
     feed("a vertex", bytes_of_vertex, sizeof bytes_of_vertex);
     step_through();
     decode_position();
-    done("check", duckhammock_check_patch(WHOLE(elins)));
-    done("check", duckhammock_check_patch(WHOLE(theirs)));
-    done("merge", duckhammock_merge_patches(WHOLE(elins), WHOLE(theirs), WHOLE(merged)));
+    done("check", duckhammock_check_patch(WHOLE(first)));
+    done("check", duckhammock_check_patch(WHOLE(second)));
+    done("merge", duckhammock_merge_patches(WHOLE(first), WHOLE(second), WHOLE(merged)));
     expect("merged mask", merged.masks[REGISTER], MERGED_MASK);
     expect("merged number", merged.numbers[REGISTER], MERGED_NUMBER);
-    feed_patch("Elin's patch", &elins);
-    feed_patch("a colleague's patch", &theirs);
+    feed_patch("the first patch", &first);
+    feed_patch("the second patch", &second);
     run(TWO_PATCHES_UNITS);
-    feed_command(commands[FIRST]);
+    feed_command(commands[FRONT]);
     feed_patch("both merged", &merged);
     run(MERGED_UNITS);
     return wrong ? EXIT_FAILURE : EXIT_SUCCESS;

@@ -1,5 +1,5 @@
 -- What the calls on a format, a command and patches promise, from what the functions that they call promise.
-use mathlib.Core.Path.{_≡_, refl, sym, ap, _∙_}
+use mathlib.Core.Path.{_≡_, sym, ap, _∙_}
 use mathlib.Core.Bool.{cond}
 use mathlib.Core.Logic.{⊎-elim}
 use mathlib.Core.List.{List, [], _∷_}
@@ -24,7 +24,7 @@ use Rattle.vertex.specs.declared.Attribute.{Attribute}
 use Rattle.vertex.specs.declared.RawWords.{RawWords}
 use Rattle.vertex.specs.declared.RawAnswer.the-variants as raw
 use Rattle.vertex.specs.Attributes.{singlesOf, wordsOf}
-use Rattle.vertex.specs.Answers.{Decodes, RawIs, told, decodingOf, refusalAt, unless, rawMeaning}
+use Rattle.vertex.specs.Answers.{Decodes, RawIs, told, refusalAt, unless, rawMeaning}
 use Rattle.vertex.specs.Answers as vertices
 use Rattle.writer.specs.declared.Written.{Written}
 use Rattle.writer.specs.declared.Written.the-variants as written
@@ -34,7 +34,8 @@ use Rattle.patch.specs.Patch.{Patch, mergedOf}
 use Rattle.patch.specs.Answers as patches
 use Rattle.patch.specs.Merging.{Merges, mergeRefusal}
 use Rattle.encoding.specs.Told.{firstOf, secondOf, padded}
-use Rattle.duckhammock.specs.Formats.{LaysOut, Decoded, KeepsBits, Puts, MergesInto, CountsBytes}
+use Rattle.duckhammock.specs.Formats.{LaysOut, TellsAttribute, KeepsBits, PutsBytes, MergesInto}
+use Rattle.duckhammock.specs.Counting.{CountsBytes}
 use Rattle.duckhammock.proofs.Refusals.{stays, stays-number, first-is}
 
 -- ---- a layout
@@ -64,7 +65,7 @@ module _ {d : Descriptor} {l : Layout} (h : Laid d l) (sizes offsets : List ℕ)
 -- ---- an attribute
 
 module _ {d : Descriptor} {k : ℕ} {vertex : List ℕ} {a : Answer} (h : Decodes d k vertex a) (values : List ℕ) where
-  pub decode-refused : (reason : Reason) {r : ℕ} → a ≡ decoded.Refused reason → r ≡ number reason → Decoded d k vertex values r values
+  pub decode-refused : (reason : Reason) {r : ℕ} → a ≡ decoded.Refused reason → r ≡ number reason → TellsAttribute d k vertex values r values
   decode-refused reason t e =
       record {
         answer-is = e ∙ ap (λ (x : Answer). firstOf (vertices.meaning x)) (sym t) ∙ ap firstOf (h .meaning-is);
@@ -72,7 +73,7 @@ module _ {d : Descriptor} {k : ℕ} {vertex : List ℕ} {a : Answer} (h : Decode
       }
 
   pub decode-done : (is : Attribute) {values' : List ℕ} → a ≡ decoded.Done is → values' ≡ padded 10 (told is)
-      → Decoded d k vertex values 0 values'
+      → TellsAttribute d k vertex values 0 values'
   decode-done is t e =
       let m = ap vertices.meaning (sym t) ∙ h .meaning-is in
       record { answer-is = ap firstOf m; values-are = e ∙ ap (λ (x : List ℕ). padded 10 (drop 1 x)) m }
@@ -118,7 +119,7 @@ counted refusal n count l {r} e m =
 
 pub puts : (refusal : ℕ) (bytes out out' : List ℕ) (w : Written) {count r count' : ℕ}
     → writer.meaning w ≡ cond (eqb refusal 0) (0 ∷ length bytes ∷ []) (refusal ∷ [])
-    → out' ≡ cond (eqb refusal 0) (writer.placed bytes out) out → CountsBytes w count r count' → Puts refusal bytes out count r out' count'
+    → out' ≡ cond (eqb refusal 0) (writer.placed bytes out) out → CountsBytes w count r count' → PutsBytes refusal bytes out count r out' count'
 puts refusal bytes out out' w {count} m o c =
     let a = c .answer-is ∙ ap firstOf m ∙ first-is refusal (length bytes ∷ []) in
     record {

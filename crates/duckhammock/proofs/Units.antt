@@ -1,5 +1,5 @@
 -- What a step and a run promise: the state that the words say is handed on, and its words are stored where a unit was done.
-use mathlib.Core.Path.{_≡_, refl, sym, ap, _∙_, subst}
+use mathlib.Core.Path.{_≡_, refl, sym, ap, _∙_}
 use mathlib.Core.Bool.{false, cond}
 use mathlib.Core.Logic.{_⊎_, inl, inr, ⊎-elim}
 use mathlib.Core.List.{List, [], _∷_}
@@ -9,14 +9,13 @@ use native.Mathlib.Omega.{arith}
 use lib.Dec.{eqb}
 use lib.ListN.{length}
 use denote.Enum.Declared.{tagOf}
-use borrow.Author.Tests.{eq-eqb, ne-eqb}
+use borrow.Author.Tests.{ne-eqb}
 use Rattle.laws.proofs.Cases.{tested}
 use Rattle.refusal.specs.Number.{number}
 use Rattle.refusal.specs.declared.Reason.the-variants.{InvalidState}
 use Rattle.command.specs.declared.Command.{Command}
 use Rattle.command.specs.declared.Draw.{Draw}
 use Rattle.command.specs.Command.{Found, unit, waiting, refused, kindOf, numbersOf}
-use Rattle.command.specs.Look.{unlessRefused}
 use Rattle.effect.specs.Effect.{cpAfter, bpAfter}
 use Rattle.fifo.specs.declared.Fifo.{Fifo}
 use Rattle.processor.proofs.StepAnswer as Answers
@@ -28,12 +27,12 @@ use Rattle.processor.specs.State.{State, stateOf}
 use Rattle.processor.specs.Gate.{gateOf}
 use Rattle.processor.specs.Step.{meaning, executed, after, stepFound, stepOf, Steps}
 use Rattle.processor.specs.Run.{Ended, ended, goneOn, steps, gated, runLimit, runOf, meaningOfStop, Reports}
-use Rattle.words.specs.declared.state.Front.the-variants.{Held, Wide}
-use Rattle.words.specs.State.{fifoOf, drawOf, cpOf, bpOf, stateAt, wordsBy}
-use Rattle.words.specs.Front.{frontOf, unitWords}
-use Rattle.encoding.specs.Told.{firstOf, secondOf, stepNumber, lackingOf, unitOf}
-use Rattle.words.proofs.Fits.{held-is, wide-refused}
-use Rattle.duckhammock.specs.Calls.{Lent, lentOf, lentBy, Tells, Ends}
+use Rattle.words.specs.declared.state.Front.the-variants.{Held}
+use Rattle.words.specs.State.{cpOf, bpOf, stateAt, wordsBy}
+use Rattle.words.specs.Front.{frontOf, wordsAfterUnit}
+use Rattle.encoding.specs.Told.{firstOf, secondOf, stepNumber, lackingOf, unitOf, TellsStep}
+use Rattle.words.proofs.Fits.{held-is}
+use Rattle.duckhammock.specs.Calls.{lentOf, lentBy, Tells, Ends}
 use Rattle.duckhammock.proofs.Refusals.{not-zero}
 
 -- the state that is handed on is the one that the words say
@@ -58,15 +57,15 @@ none (Done d m l) (inr h) = omega arith
 none (Waiting k) h = tt
 none (Refused r) h = tt
 
-module _ (ring : List ℕ) (s : State) (words told : List ℕ) where
+module _ (ring : List ℕ) (s : State) (words told : List ℕ) (lacking : ℕ) where
   -- words too wide: 1
-  pub step-wide : {r lacking : ℕ} → gateOf s (length ring) ≡ 1 → r ≡ number InvalidState → lacking ≡ 0
-      → Tells ring s (lentOf words (s .xf) (s .buffer)) told r (lentOf words (s .xf) (s .buffer)) told lacking
+  pub step-wide : {r : ℕ} → gateOf s (length ring) ≡ 1 → r ≡ number InvalidState
+      → Tells ring s (lentOf words (s .xf) (s .buffer)) told lacking r (lentOf words (s .xf) (s .buffer)) told lacking
   unfolding stepFound
-  step-wide g e k =
+  step-wide g e =
       record {
         answer-is = rw g e;
-        lacking-is = rw g k;
+        lacking-is = rw g;
         unit-is = rw (not-zero InvalidState e);
         lent-is = rw (not-zero InvalidState e);
       }
@@ -84,16 +83,16 @@ module _ (ring : List ℕ) (s : State) (words told : List ℕ) where
   none-after (Waiting k) h = refl
   none-after (Refused reason) h = refl
 
-  pub step-none : {c : Stepped} {cp bp xf vertex : List ℕ} {r lacking : ℕ} → Steps ring s c cp bp xf vertex → isNone (c .answer)
-      → r ≡ stepNumber (meaning (c .answer)) → lacking ≡ lackingOf (meaning (c .answer))
-      → Tells ring s (lentOf words (s .xf) (s .buffer)) told r (lentOf words xf vertex) told lacking
+  pub step-none : {c : Stepped} {cp bp xf vertex : List ℕ} {r lacking' : ℕ} → Steps ring s c cp bp xf vertex → isNone (c .answer)
+      → TellsStep (meaning (c .answer)) lacking r lacking'
+      → Tells ring s (lentOf words (s .xf) (s .buffer)) told lacking r (lentOf words xf vertex) told lacking'
   unfolding stepOf
-  step-none {c} h n e k =
-      let z = none-number (c .answer) n e in
+  step-none {c} h n e =
+      let z = none-number (c .answer) n (e .answer-is) in
       let left : _ ≡ s = h .state-is ∙ ap (after ring s) (sym (h .answer-is)) ∙ none-after (c .answer) n in
       record {
-        answer-is = e ∙ ap stepNumber (h .answer-is);
-        lacking-is = k ∙ ap lackingOf (h .answer-is);
+        answer-is = e .answer-is ∙ ap stepNumber (h .answer-is);
+        lacking-is = e .lacking-is ∙ ap (λ (x : Found). lackingOf x lacking) (h .answer-is);
         unit-is = rw z;
         lent-is = rw z (ap (λ (x : State). lentOf words (x .xf) (x .buffer)) left);
       }
@@ -107,21 +106,21 @@ module _ (ring : List ℕ) (s : State) (words told : List ℕ) where
   unfolding bpAfter
   whole-bp c bp e h = ⊎-elim (λ z. rw z) (λ z. rw z (sym (rw z at h ∙ e))) (tested (eqb (kindOf c) 0x61))
 
-  pub step-done : {c : Stepped} {cp bp xf vertex words' told' : List ℕ} {lacking : ℕ} (command : Command) (memory n : ℕ)
+  pub step-done : {c : Stepped} {cp bp xf vertex words' told' : List ℕ} (command : Command) (memory n : ℕ)
       → s .cp ≡ cpOf words → s .bp ≡ bpOf words
       → Steps ring s c cp bp xf vertex → c .answer ≡ Done command memory n
-      → words' ≡ unitWords words (kindOf (numbersOf command)) (c .fifo) cp bp (c .draw)
-      → told' ≡ unitOf (unit (numbersOf command) memory n) → lacking ≡ lackingOf (meaning (c .answer))
-      → Tells ring s (lentOf words (s .xf) (s .buffer)) told 0 (lentOf words' xf vertex) told' lacking
-  unfolding unitWords stepOf executed
-  step-done {c} {cp} {bp} {xf} {vertex} command memory n of-cp of-bp h t w u k =
+      → words' ≡ wordsAfterUnit words (kindOf (numbersOf command)) (c .fifo) cp bp (c .draw)
+      → told' ≡ unitOf (unit (numbersOf command) memory n)
+      → Tells ring s (lentOf words (s .xf) (s .buffer)) told lacking 0 (lentOf words' xf vertex) told' lacking
+  unfolding wordsAfterUnit stepOf executed
+  step-done {c} {cp} {bp} {xf} {vertex} command memory n of-cp of-bp h t w u =
       let found = ap meaning (sym t) ∙ h .answer-is in
       let left = h .state-is ∙ ap (after ring s) (sym found) in
       let p = whole-cp (numbersOf command) cp of-cp (ap (λ (x : State). x .cp) left) in
       let q = whole-bp (numbersOf command) bp of-bp (ap (λ (x : State). x .bp) left) in
       record {
         answer-is = ap stepNumber found;
-        lacking-is = k ∙ ap lackingOf (h .answer-is);
+        lacking-is = ap (λ (x : Found). lackingOf x lacking) found;
         unit-is = u ∙ ap unitOf found;
         lent-is = ap (λ (x : List ℕ). lentOf x xf vertex) (w ∙ (λ i. wordsBy (c .fifo) (p i) (q i) (c .draw))) ∙ ap lentBy (h .state-is);
       }

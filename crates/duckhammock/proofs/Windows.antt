@@ -3,11 +3,11 @@ use mathlib.Core.Path.{_≡_, refl, sym, ap, _∙_, subst}
 use mathlib.Core.Bool.{Bool, true, false, cond, not, _&&_, _||_, false≢true}
 use mathlib.Core.Logic.{⊎-elim}
 use mathlib.Core.List.{List, [], _∷_}
-use Prim.Native.Nat.{ℕ, _%_, _<_, _≤_}
+use Prim.Native.Nat.{ℕ, _%_, _≤_}
 use native.Mathlib.Omega.{arith}
 use lib.Dec.{eqb, leb, ltb}
-use lib.ListN.{length, getD, set}
-use borrow.Author.Tests.{eqb-true, eqb-false, ltb-true, leb-true, eq-eqb, ne-eqb, le-ltb, not-true}
+use lib.ListN.{length, getD}
+use borrow.Author.Tests.{eqb-true, eqb-false, leb-true, le-ltb, not-true}
 use Rattle.laws.proofs.Cases.{and-left, and-right, tested}
 use Rattle.laws.proofs.Tests.{or-cases}
 use Rattle.refusal.specs.Number.{number}
@@ -18,16 +18,15 @@ use Rattle.fifo.specs.declared.Fifo.{Fifo}
 use Rattle.fifo.specs.declared.Changed.{Changed}
 use Rattle.fifo.specs.declared.Reading.{Reading}
 use Rattle.fifo.specs.declared.Reading.the-variants as reading
-use Rattle.fifo.specs.declared.Answer.{Answer}
 use Rattle.fifo.specs.declared.Answer.the-variants as answer
 use Rattle.fifo.specs.Answers.{meaningOf, meaningOfReading, ChangedBy}
-use Rattle.fifo.specs.Feeding.{put, feedRefusal, accepted, fifoAfter, ringAfter, FedBy}
-use Rattle.fifo.specs.Window.{validBy, readyBy, accept, withWindow, withControl, withWrite}
-use Rattle.fifo.specs.Registers.{listed, computed, readable, writable, statusOf, valueOf, readAnswer, withRegister, stored, written, writeAnswer}
+use Rattle.fifo.specs.Feeding.{feedRefusal, accepted, fifoAfter, ringAfter, FedBy}
+use Rattle.fifo.specs.Window.{readyBy, accept, withWindow, withControl, withWrite}
+use Rattle.fifo.specs.Registers.{listed, computed, readable, writable, valueOf, readAnswer, withRegister, stored, written, writeAnswer}
 use Rattle.processor.specs.State.{drawingOf}
-use Rattle.words.specs.State.{windowOf, fifoOf, drawOf, leftOf, windowWords, withFifo}
+use Rattle.words.specs.State.{windowOf, fifoOf, drawOf, leftOf, fifoStored}
 use Rattle.encoding.specs.Told.{firstOf, secondOf}
-use Rattle.duckhammock.specs.Calls.{readingOf, Reads, Writes, Feeds}
+use Rattle.duckhammock.specs.Calls.{readingOf, ReadsRegister, WritesRegister, Feeds}
 use Rattle.duckhammock.proofs.Refusals.{not-zero, stays, stays-number}
 
 -- the fifo that the code hands on: the window with no control word
@@ -77,7 +76,7 @@ module _ (w : Window) (control : ℕ) (drawing : Bool) (o : ℕ) (other : o ≡ 
       (tested (readable o))
 
 module _ (l : List ℕ) {offset : ℕ} (value : ℕ) where
-  pub reads-control : offset ≡ 2 → Reads l offset value 0 (getD l 6 0)
+  pub reads-control : offset ≡ 2 → ReadsRegister l offset value 0 (getD l 6 0)
   unfolding readAnswer readable listed computed valueOf fifoOf
   reads-control e = rw e (record { answer-is = refl; value-is = refl })
 
@@ -90,14 +89,14 @@ module _ (l : List ℕ) {offset : ℕ} (value : ℕ) where
         ∙ same-reading (windowOf l) (getD l 6 0) (not (eqb (getD l 7 0) 0)) offset other
         ∙ ap (λ (t : Bool). readAnswer (fifoOf l) t offset) (drawing-is l)
 
-    pub reads-refused : (reason : Reason) {r : ℕ} → a ≡ reading.Refused reason → r ≡ number reason → Reads l offset value r value
+    pub reads-refused : (reason : Reason) {r : ℕ} → a ≡ reading.Refused reason → r ≡ number reason → ReadsRegister l offset value r value
     reads-refused reason t e =
         record {
           answer-is = e ∙ ap firstOf (ap meaningOfReading (sym t) ∙ read-by);
           value-is = stays-number reason e _ value;
         }
 
-    pub reads-done : (v : ℕ) → a ≡ reading.Value v → Reads l offset value 0 v
+    pub reads-done : (v : ℕ) → a ≡ reading.Value v → ReadsRegister l offset value 0 v
     reads-done v t =
         let m = ap meaningOfReading (sym t) ∙ read-by in
         record { answer-is = ap firstOf m; value-is = ap secondOf m }
@@ -135,7 +134,7 @@ module _ (w : Window) (control o v : ℕ) (other : o ≡ 2 → ⊥) (e : writabl
 
 module _ (l : List ℕ) {offset : ℕ} (value : ℕ) {w : Window} {c : Changed} (of-window : w ≡ windowOf l)
     (h : ChangedBy c (writeAnswer offset) (written (bare w) offset value)) where
-  pub writes-refused : (reason : Reason) {r : ℕ} → c .answer ≡ answer.Refused reason → r ≡ number reason → Writes l offset value r l
+  pub writes-refused : (reason : Reason) {r : ℕ} → c .answer ≡ answer.Refused reason → r ≡ number reason → WritesRegister l offset value r l
   writes-refused reason t e =
       record {
         answer-is = e ∙ ap firstOf (ap meaningOf (sym t) ∙ h .answer-is);
@@ -157,21 +156,21 @@ module _ (l : List ℕ) {offset : ℕ} (value : ℕ) {w : Window} {c : Changed} 
       let f : c .fifo .control ≡ value % 64 = ap (λ (x : Fifo). x .control) (rw e at (h .fifo-is)) in
       rw e (ap (λ (n : ℕ). withControl (fifoOf l) n) f)
 
-  pub writes-control : {l' : List ℕ} → l' ≡ withFifo l (withControl (fifoOf l) (c .fifo .control)) → c .answer ≡ answer.Accepted → offset ≡ 2
-      → Writes l offset value 0 l'
+  pub writes-control : {l' : List ℕ} → l' ≡ fifoStored l (withControl (fifoOf l) (c .fifo .control)) → c .answer ≡ answer.Accepted
+      → offset ≡ 2 → WritesRegister l offset value 0 l'
   writes-control saved t e =
       record {
         answer-is = ap firstOf (ap meaningOf (sym t) ∙ h .answer-is);
-        state-is = saved ∙ ap (withFifo l) (control-is e);
+        state-is = saved ∙ ap (fifoStored l) (control-is e);
       }
 
-  pub writes-window : {l' : List ℕ} → l' ≡ withFifo l (withWindow (fifoOf l) (c .fifo .window)) → c .answer ≡ answer.Accepted
-      → (offset ≡ 2 → ⊥) → Writes l offset value 0 l'
+  pub writes-window : {l' : List ℕ} → l' ≡ fifoStored l (withWindow (fifoOf l) (c .fifo .window)) → c .answer ≡ answer.Accepted
+      → (offset ≡ 2 → ⊥) → WritesRegister l offset value 0 l'
   writes-window saved t other =
       let a = ap meaningOf (sym t) ∙ h .answer-is in
       record {
         answer-is = ap firstOf a;
-        state-is = saved ∙ ap (withFifo l) (window-is other a);
+        state-is = saved ∙ ap (fifoStored l) (window-is other a);
       }
 
 -- ---- feeding: the control word is not used
@@ -203,7 +202,7 @@ module _ (l : List ℕ) {ring bytes ring' : List ℕ} {w : Window} {c : Changed}
   unfolding fifoAfter accepted
   after-is f q = rw (← q)
 
-  pub feeds-done : {l' : List ℕ} → l' ≡ withFifo l (withWindow (fifoOf l) (withWrite (windowOf l) (c .fifo .window .write)))
+  pub feeds-done : {l' : List ℕ} → l' ≡ fifoStored l (withWindow (fifoOf l) (withWrite (windowOf l) (c .fifo .window .write)))
       → c .answer ≡ answer.Accepted → Feeds l ring bytes 0 l' ring'
   unfolding accept fifoOf
   feeds-done saved t =
@@ -214,7 +213,7 @@ module _ (l : List ℕ) {ring bytes ring' : List ℕ} {w : Window} {c : Changed}
         answer-is = q;
         state-is =
             saved
-            ∙ ap (λ (p : ℕ). withFifo l (withWindow (fifoOf l) (withWrite (windowOf l) p))) x
-            ∙ ap (withFifo l) (sym (after-is (fifoOf l) q));
+            ∙ ap (λ (p : ℕ). fifoStored l (withWindow (fifoOf l) (withWrite (windowOf l) p))) x
+            ∙ ap (fifoStored l) (sym (after-is (fifoOf l) q));
         ring-is = ring-by;
       }

@@ -1,19 +1,18 @@
 -- What each call on the state answers and leaves. "A refusal carries its number from document 01; the refused call or unit changes no
 -- register, ring byte or output byte. An unfinished unit waits and changes nothing either": each equation for what was lent says that it is
--- changed where the answer is 0, and else what it was.
+-- changed where the answer is 0, of a run where it did a unit, and else what it was.
 use mathlib.Core.Path.{_≡_}
-use mathlib.Core.Bool.{Bool, cond}
+use mathlib.Core.Bool.{cond}
 use mathlib.Core.List.{List, [], _∷_}
 use Prim.Native.Nat.{ℕ}
 use lib.Dec.{eqb}
 use lib.ListN.{length}
-use Rattle.command.specs.Command.{Found}
 use Rattle.fifo.specs.Feeding.{feedRefusal, fifoAfter, ringAfter}
 use Rattle.fifo.specs.Registers.{readAnswer, writeAnswer, written}
 use Rattle.processor.specs.State.{State, drawingOf}
 use Rattle.processor.specs.Step.{stepFound, stepOf}
 use Rattle.processor.specs.Run.{Ended}
-use Rattle.words.specs.State.{fifoOf, drawOf, wordsOf, withFifo}
+use Rattle.words.specs.State.{fifoOf, drawOf, stateWords, fifoStored}
 use Rattle.encoding.specs.Told.{firstOf, secondOf, stepNumber, lackingOf, unitOf}
 
 -- the answer of a hardware register read
@@ -21,19 +20,19 @@ abbrev pub readingOf : List ℕ → ℕ → List ℕ
 readingOf words offset = readAnswer (fifoOf words) (drawingOf (drawOf words)) offset
 
 -- a hardware register read
-pub record Reads (words : List ℕ) (offset value r value' : ℕ) : Type 0 where
+pub record ReadsRegister (words : List ℕ) (offset value r value' : ℕ) : Type 0 where
   pub answer-is : r ≡ firstOf (readingOf words offset)
   pub value-is : value' ≡ cond (eqb r 0) (secondOf (readingOf words offset)) value
 
 -- a hardware register written: of the state's words only the fifo's may change
-pub record Writes (words : List ℕ) (offset value r : ℕ) (words' : List ℕ) : Type 0 where
+pub record WritesRegister (words : List ℕ) (offset value r : ℕ) (words' : List ℕ) : Type 0 where
   pub answer-is : r ≡ firstOf (writeAnswer offset)
-  pub state-is : words' ≡ cond (eqb r 0) (withFifo words (written (fifoOf words) offset value)) words
+  pub state-is : words' ≡ cond (eqb r 0) (fifoStored words (written (fifoOf words) offset value)) words
 
 -- bytes fed: of the state's words only the fifo's may change, and `accept` moves the write pointer alone
 pub record Feeds (words ring bytes : List ℕ) (r : ℕ) (words' ring' : List ℕ) : Type 0 where
   pub answer-is : r ≡ feedRefusal (fifoOf words) (length ring) (length bytes)
-  pub state-is : words' ≡ cond (eqb r 0) (withFifo words (fifoAfter (fifoOf words) ring bytes)) words
+  pub state-is : words' ≡ cond (eqb r 0) (fifoStored words (fifoAfter (fifoOf words) ring bytes)) words
   pub ring-is : ring' ≡ cond (eqb r 0) (ringAfter (fifoOf words) ring bytes) ring
 
 -- what a call was lent: the state's words, the XF words and the vertex buffer
@@ -42,18 +41,19 @@ pub record Lent : Type 0 where
   pub xf : List ℕ
   pub vertex : List ℕ
 
+-- these three
 abbrev pub lentOf : List ℕ → List ℕ → List ℕ → Lent
 lentOf words xf vertex = record { words = words; xf = xf; vertex = vertex }
 
 -- the same, lent as a state's words and memory
 abbrev pub lentBy : State → Lent
-lentBy s = lentOf (wordsOf s) (s .xf) (s .buffer)
+lentBy s = lentOf (stateWords s) (s .xf) (s .buffer)
 
--- a step at the state s that was lent so: the unit's words, where one was done, and the bytes lacking
-pub record Tells (ring : List ℕ) (s : State) (lent : Lent) (unit : List ℕ) (r : ℕ) (lent' : Lent) (unit' : List ℕ) (lacking' : ℕ) :
+-- a step at the state s that was lent so: the unit's words, where one was done, and the bytes lacking, where it waits
+pub record Tells (ring : List ℕ) (s : State) (lent : Lent) (unit : List ℕ) (lacking r : ℕ) (lent' : Lent) (unit' : List ℕ) (lacking' : ℕ) :
     Type 0 where
   pub answer-is : r ≡ stepNumber (stepFound ring s)
-  pub lacking-is : lacking' ≡ lackingOf (stepFound ring s)
+  pub lacking-is : lacking' ≡ lackingOf (stepFound ring s) lacking
   pub unit-is : unit' ≡ cond (eqb r 0) (unitOf (stepFound ring s)) unit
   pub lent-is : lent' ≡ cond (eqb r 0) (lentBy (stepOf ring s)) lent
 

@@ -1,8 +1,8 @@
--- What the calls on a vertex format, a command to write and patches answer and leave; what was lent for the answer is what it was where they
--- are refused.
+-- What the calls on a vertex format, a command to write and patches answer and leave. Where they are refused, what was lent for the answer
+-- is what it was.
 use mathlib.Core.Path.{_≡_}
 use mathlib.Core.Bool.{cond}
-use mathlib.Core.List.{List, [], _∷_}
+use mathlib.Core.List.{List, _∷_}
 use Prim.Native.Nat.{ℕ}
 use lib.Dec.{eqb}
 use lib.ListN.{length, drop}
@@ -12,13 +12,12 @@ use Rattle.layout.specs.Sizes.{sizeOf, offsetOf}
 use Rattle.layout.specs.Answers.{refusalOf}
 use Rattle.vertex.specs.Attributes.{singlesOf, wordsOf}
 use Rattle.vertex.specs.Answers.{refusalAt, decodingOf}
-use Rattle.writer.specs.declared.Written.{Written}
 use Rattle.writer.specs.Write as writer
 use Rattle.patch.specs.Patch.{Patch, mergedOf}
 use Rattle.patch.specs.Commands.{patchBytes}
 use Rattle.patch.specs.Answers.{writeRefusal}
 use Rattle.patch.specs.Merging.{mergeRefusal}
-use Rattle.encoding.specs.Told.{firstOf, secondOf, padded}
+use Rattle.encoding.specs.Told.{firstOf, padded}
 
 -- a vertex laid out: the bytes of each attribute, the sums of those before it, and the length
 pub record LaysOut (d : Descriptor) (sizes offsets : List ℕ) (bytes r : ℕ) (sizes' offsets' : List ℕ) (bytes' : ℕ) : Type 0 where
@@ -29,7 +28,7 @@ pub record LaysOut (d : Descriptor) (sizes offsets : List ℕ) (bytes r : ℕ) (
 
 -- an attribute decoded: its kind and values, then zeros. That each component is exact is what `vertex::decode` promises of the same numbers
 -- (`Decodes`).
-pub record Decoded (d : Descriptor) (k : ℕ) (vertex values : List ℕ) (r : ℕ) (values' : List ℕ) : Type 0 where
+pub record TellsAttribute (d : Descriptor) (k : ℕ) (vertex values : List ℕ) (r : ℕ) (values' : List ℕ) : Type 0 where
   pub answer-is : r ≡ firstOf (decodingOf d k vertex)
   pub values-are : values' ≡ cond (eqb r 0) (padded 10 (drop 1 (decodingOf d k vertex))) values
 
@@ -39,7 +38,7 @@ pub record KeepsBits (d : Descriptor) (k : ℕ) (vertex values : List ℕ) (r : 
   pub values-are : values' ≡ cond (eqb r 0) (singlesOf d k ∷ wordsOf vertex (offsetOf d k) (singlesOf d k)) values
 
 -- bytes written to the front of an output, and how many, unless this refuses it
-pub record Puts (refusal : ℕ) (bytes out : List ℕ) (count r : ℕ) (out' : List ℕ) (count' : ℕ) : Type 0 where
+pub record PutsBytes (refusal : ℕ) (bytes out : List ℕ) (count r : ℕ) (out' : List ℕ) (count' : ℕ) : Type 0 where
   pub answer-is : r ≡ refusal
   pub out-is : out' ≡ cond (eqb r 0) (writer.placed bytes out) out
   pub count-is : count' ≡ cond (eqb r 0) (length bytes) count
@@ -47,20 +46,13 @@ pub record Puts (refusal : ℕ) (bytes out : List ℕ) (count r : ℕ) (out' : L
 -- one command with its lent words, written
 abbrev pub PutsCommand : List ℕ → List ℕ → List ℕ → ℕ → ℕ → List ℕ → ℕ → Type 0
 PutsCommand c words out count r out' count' =
-    Puts (writer.refusalOf c words (length out)) (writer.commandBytes c words) out count r out' count'
+    PutsBytes (writer.refusalOf c words (length out)) (writer.commandBytes c words) out count r out' count'
 
 -- a patch written
 abbrev pub PutsPatch : Patch → List ℕ → ℕ → ℕ → List ℕ → ℕ → Type 0
-PutsPatch p out count r out' count' = Puts (writeRefusal p (length out)) (patchBytes p) out count r out' count'
+PutsPatch p out count r out' count' = PutsBytes (writeRefusal p (length out)) (patchBytes p) out count r out' count'
 
 -- two patches merged into a third
 pub record MergesInto (a b out : Patch) (r : ℕ) (out' : Patch) : Type 0 where
   pub answer-is : r ≡ mergeRefusal a b out
   pub out-is : out' ≡ cond (eqb r 0) (mergedOf a b) out
-
--- ---- for the code's own functions
-
--- a writer's answer as its number, and the bytes where it is 0
-pub record CountsBytes (answer : Written) (count r count' : ℕ) : Type 0 where
-  pub answer-is : r ≡ firstOf (writer.meaning answer)
-  pub count-is : count' ≡ cond (eqb r 0) (secondOf (writer.meaning answer)) count

@@ -3,8 +3,8 @@ use crate::refused;
 use layout::LayoutAnswer;
 use vertex::Answer;
 use vertex::RawAnswer;
-ghost use Rattle.encoding.specs.Told.{descriptorOf};
-ghost use Rattle.duckhammock.specs.Formats.{LaysOut, Decoded, KeepsBits};
+ghost use Rattle.encoding.specs.Named.{formatNamed};
+ghost use Rattle.duckhammock.specs.Formats.{LaysOut, TellsAttribute, KeepsBits};
 
 // The layout of a vertex: each attribute's bytes, the sum of those before it, and the length.
 #[no_mangle]
@@ -14,7 +14,7 @@ pub extern "C" fn duckhammock_lay_out(
     offsets: &mut [u8; 21],
     length: &mut u32,
 ) -> u32
-    ensures { λ r. ⌜ LaysOut (descriptorOf (now (format .entry))) (now (sizes .entry)) (now (offsets .entry)) (now (length .entry))
+    ensures { λ r. ⌜ LaysOut (formatNamed (now (format .entry))) (now (sizes .entry)) (now (offsets .entry)) (now (length .entry))
         r (now (sizes .exit)) (now (offsets .exit)) (now (length .exit)) ⌝ }
 {
     let laid = layout::lay_out(encoding::descriptor(format));
@@ -38,7 +38,7 @@ pub extern "C" fn duckhammock_decode(
     vertex: &[u8],
     values: &mut [u32; 10],
 ) -> u32
-    ensures { λ r. ⌜ Decoded (descriptorOf (now (format .entry))) attribute (now (vertex .entry)) (now (values .entry))
+    ensures { λ r. ⌜ TellsAttribute (formatNamed (now (format .entry))) attribute (now (vertex .entry)) (now (values .entry))
         r (now (values .exit)) ⌝ }
 {
     let decoded = vertex::decode(encoding::descriptor(format), attribute as usize, vertex);
@@ -59,7 +59,7 @@ pub extern "C" fn duckhammock_raw_words(
     vertex: &[u8],
     values: &mut [u32; 10],
 ) -> u32
-    ensures { λ r. ⌜ KeepsBits (descriptorOf (now (format .entry))) attribute (now (vertex .entry)) (now (values .entry))
+    ensures { λ r. ⌜ KeepsBits (formatNamed (now (format .entry))) attribute (now (vertex .entry)) (now (values .entry))
         r (now (values .exit)) ⌝ }
 {
     let raw = vertex::raw_words(encoding::descriptor(format), attribute as usize, vertex);

@@ -1,9 +1,10 @@
-// The library's calls on numbers and slices, for C and Rust to link, and for the program `show`. `include/duckhammock.h` says them in C's
-// words.
+// The library's calls on numbers and slices, for C and Rust to link, and for the program `show`. `include/duckhammock.h` says them in
+// C's words.
 //
-// The state is 327 words that the caller keeps (`words`, specs/State.antt). The number returned is 0 where the call was accepted, a unit was
-// done or the limit was reached, 255 for waiting, and else the refusal's number. A refused or waiting call changes nothing that it was lent,
-// but a step's bytes lacking and a run's report are told whatever the answer.
+// The state is 327 words that the caller keeps (`words`, specs/State.antt). The number returned is 0 where the call was accepted, a unit
+// was done or the limit was reached, 255 for waiting, and else the refusal's number. A refused or waiting call changes nothing that it was
+// lent, but that waiting tells how many bytes are lacking; a run keeps the units before the one that was refused or waits, and its report
+// is told whatever the answer.
 mod formats;
 mod patches;
 
@@ -27,7 +28,7 @@ ghost use Rattle.refusal.specs.Number.{number};
 ghost use Rattle.processor.specs.Gate.{gateBy};
 ghost use Rattle.processor.specs.Run.{runOf};
 ghost use Rattle.words.specs.State.{cpOf, bpOf, stateAt, freshWords};
-ghost use Rattle.duckhammock.specs.Calls.{Reads, Writes, Feeds, lentOf, Tells, Ends};
+ghost use Rattle.duckhammock.specs.Calls.{ReadsRegister, WritesRegister, Feeds, lentOf, Tells, Ends};
 
 // The hardware offset of the control register, whose state word may be wider than the register.
 const CONTROL: u16 = 0x002;
@@ -53,10 +54,10 @@ pub extern "C" fn duckhammock_fresh(state: &mut [u32; 327])
     words::save(state, fifo, &cp, &bp, draw);
 }
 
-// Reads a hardware register; the control register as its word stands.
+// ReadsRegister a hardware register; the control register as its word stands.
 #[no_mangle]
 pub extern "C" fn duckhammock_read_register(state: &[u32; 327], offset: u16, value: &mut u32) -> u32
-    ensures { λ r. ⌜ Reads (now (state .entry)) offset (now (value .entry)) r (now (value .exit)) ⌝ }
+    ensures { λ r. ⌜ ReadsRegister (now (state .entry)) offset (now (value .entry)) r (now (value .exit)) ⌝ }
 {
     if offset == CONTROL {
         *value = state[6];
@@ -76,10 +77,10 @@ pub extern "C" fn duckhammock_read_register(state: &[u32; 327], offset: u16, val
     }
 }
 
-// Writes a hardware register.
+// WritesRegister a hardware register.
 #[no_mangle]
 pub extern "C" fn duckhammock_write_register(state: &mut [u32; 327], offset: u16, value: u16) -> u32
-    ensures { λ r. ⌜ Writes (now (state .entry)) offset value r (now (state .exit)) ⌝ }
+    ensures { λ r. ⌜ WritesRegister (now (state .entry)) offset value r (now (state .exit)) ⌝ }
 {
     let fifo = Fifo {
         window: words::window(state),
@@ -118,7 +119,7 @@ pub extern "C" fn duckhammock_feed(state: &mut [u32; 327], ring: &mut [u8], byte
     0
 }
 
-// Takes one unit: its command's five words and its bytes, and the bytes lacking, 0 unless it waits.
+// Takes one unit, and tells its command's five words and how many bytes it has; where it waits, how many bytes it lacks.
 #[no_mangle]
 pub extern "C" fn duckhammock_step(
     state: &mut [u32; 327],
@@ -130,25 +131,24 @@ pub extern "C" fn duckhammock_step(
 ) -> u32
     ensures { λ r. ⌜ Tells (now (ring .entry)) (stateAt (now (state .entry)) (now (xf .entry)) (now (vertex .entry)))
         (lentOf (now (state .entry)) (now (xf .entry)) (now (vertex .entry))) (now (unit .entry))
-        r (lentOf (now (state .exit)) (now (xf .exit)) (now (vertex .exit))) (now (unit .exit)) (now (lacking .exit)) ⌝ }
+        (now (lacking .entry)) r (lentOf (now (state .exit)) (now (xf .exit)) (now (vertex .exit)))
+        (now (unit .exit)) (now (lacking .exit)) ⌝ }
 {
     let front = words::read_front(state);
     let Front::Held { fifo, draw } = front else {
-        *lacking = 0;
         return refused(Reason::InvalidState);
     };
     let mut cp = words::cp(state);
     let mut bp = words::bp(state);
     let stepped = processor::step(fifo, &mut cp, &mut bp, draw, ring, xf, vertex);
     let answer = stepped.answer;
-    *lacking = encoding::step_lacking(answer);
     let StepAnswer::Done {
         command,
         memory,
         length,
     } = answer
     else {
-        return encoding::step_number(answer);
+        return encoding::tell_step(answer, lacking);
     };
     let after = stepped.fifo;
     let left = stepped.draw;
@@ -157,7 +157,8 @@ pub extern "C" fn duckhammock_step(
     0
 }
 
-// The first of 1 to 5 that applies to the words as they stand, 0 where none does. No register is copied for it.
+// The first of 1 to 5 that applies to the words as they stand, 0 where none does. The two copies are only read, and the compiler leaves
+// them out.
 fn gate_number(
     state: &[u32; 327],
     fifo: Fifo,

@@ -6,7 +6,8 @@ ghost use mathlib.Core.Path.{_≡_};
 ghost use Rattle.patch.specs.Patch.{patchOf, faultOf};
 ghost use Rattle.patch.specs.Answers.{meaning};
 ghost use Rattle.encoding.specs.Named.{commandNamed};
-ghost use Rattle.duckhammock.specs.Formats.{CountsBytes, PutsCommand, PutsPatch, MergesInto};
+ghost use Rattle.duckhammock.specs.Formats.{PutsCommand, PutsPatch, MergesInto};
+ghost use Rattle.duckhammock.specs.Counting.{CountsBytes};
 
 // The number of a check's answer.
 fn checked_number(found: Checked) -> u32
@@ -54,7 +55,7 @@ pub extern "C" fn duckhammock_check_patch(masks: &[u32], numbers: &[u32]) -> u32
     checked_number(patch::check(masks, numbers))
 }
 
-// Merges patch B into patch A, into the lent pair.
+// Merges the patches A and B into the lent pair: the bits that either names, B's where both do.
 #[no_mangle]
 pub extern "C" fn duckhammock_merge_patches(
     a_masks: &[u32],

@@ -1,10 +1,12 @@
--- A command to write as five words, the kind, a, b, c and d, as a unit is told: "its fields in the widths above". Words that no command has,
--- a kind that is not listed or a field wider than its bits, name a vertex: it is never written, and 18 is its refusal.
+-- What words name that a caller hands in: a command to write, and a vertex format. A command is five words, the kind, a, b, c and d, as a
+-- unit is told. Words that no command has, a kind that is not listed or a field too wide for 8 or 16 bits where the command has no more,
+-- name a vertex: it is never written, and 18 is its refusal. The writer tests the narrower widths, by 18 too.
 use mathlib.Core.Bool.{cond, _&&_}
 use mathlib.Core.List.{List}
 use Prim.Native.Nat.{ℕ, _^_}
 use lib.Dec.{eqb, ltb}
 use lib.ListN.{getD}
+use Rattle.layout.specs.declared.Descriptor.{Descriptor}
 use Rattle.command.specs.Command.{noOperation, invalidateCache, metrics, loadCp, loadXf, loadIndexed, callList, loadBp, drawHead, vertex}
 
 -- a address, b number
@@ -47,3 +49,7 @@ commandBy kind a b c =
 -- the command that five words name
 abbrev pub commandNamed : List ℕ → List ℕ
 commandNamed l = commandBy (getD l 0 0) (getD l 1 0) (getD l 2 0) (getD l 3 0)
+
+-- the vertex format that five words name: groups 0 and 1 of the VCD, groups 0 to 2 of one format's VAT
+unfoldable pub formatNamed : List ℕ → Descriptor
+formatNamed l = record { vcd0 = getD l 0 0; vcd1 = getD l 1 0; vat0 = getD l 2 0; vat1 = getD l 3 0; vat2 = getD l 4 0 }

@@ -1,11 +1,11 @@
 -- Answers as numbers: the answer's number, 0 for accepted or done, 255 for waiting, else the refusal's; and the words beside it.
+use mathlib.Core.Path.{_≡_}
 use mathlib.Core.Bool.{cond}
 use mathlib.Core.List.{List, [], _∷_, _++_}
 use Prim.Native.Nat.{ℕ, _+_, _*_, _-_}
 use lib.Dec.{eqb}
 use lib.ListN.{getD, take, replicate}
 use Rattle.command.specs.Command.{Found, unit, waiting, refused, kindOf, fieldOf}
-use Rattle.layout.specs.declared.Descriptor.{Descriptor}
 
 -- the first and the second number of an answer, 0 where it has none
 abbrev pub firstOf : List ℕ → ℕ
@@ -33,18 +33,19 @@ stepNumber (unit c memory n) = 0
 stepNumber (waiting lacking) = 255
 stepNumber (refused r) = r
 
--- the bytes lacking, 0 unless it waits
-abbrev pub lackingOf : Found → ℕ
-lackingOf (unit c memory n) = 0
-lackingOf (waiting lacking) = lacking
-lackingOf (refused r) = 0
+-- what was lent for the bytes lacking: how many they are where a step waits, and else what it was
+abbrev pub lackingOf : Found → ℕ → ℕ
+lackingOf (unit c memory n) old = old
+lackingOf (waiting lacking) old = lacking
+lackingOf (refused r) old = old
+
+-- a step's answer told, with the bytes lacking
+pub record TellsStep (found : Found) (lacking r lacking' : ℕ) : Type 0 where
+  pub answer-is : r ≡ stepNumber found
+  pub lacking-is : lacking' ≡ lackingOf found lacking
 
 -- the six words of a unit: its command and its bytes; what is no unit has none
 abbrev pub unitOf : Found → List ℕ
 unitOf (unit c memory n) = commandWords c memory ++ (n ∷ [])
 unitOf (waiting lacking) = []
 unitOf (refused r) = []
-
--- a vertex format as five words: VCD 0, VCD 1, VAT 0, VAT 1, VAT 2
-unfoldable pub descriptorOf : List ℕ → Descriptor
-descriptorOf l = record { vcd0 = getD l 0 0; vcd1 = getD l 1 0; vat0 = getD l 2 0; vat1 = getD l 3 0; vat2 = getD l 4 0 }

@@ -6,14 +6,18 @@ ghost use mathlib.Core.Path.{_≡_};
 ghost use Rattle.command.specs.Command.{unit, numbersOf};
 ghost use Rattle.processor.specs.Step.{meaning};
 ghost use Rattle.processor.specs.Run.{meaningOfStop};
-ghost use Rattle.encoding.specs.Told.{firstOf, secondOf, indexedKind, stepNumber, lackingOf, unitOf};
+ghost use Rattle.encoding.specs.Told.{firstOf, secondOf, indexedKind, unitOf, TellsStep};
 
-pub fn step_number(answer: StepAnswer) -> u32
-    ensures { λ r. ⌜ r ≡ stepNumber (meaning answer) ⌝ }
+// The number of a step's answer, and where it waits the bytes lacking.
+pub fn tell_step(answer: StepAnswer, lacking: &mut u32) -> u32
+    ensures { λ r. ⌜ TellsStep (meaning answer) (now (lacking .entry)) r (now (lacking .exit)) ⌝ }
 {
     match answer {
         StepAnswer::Done { .. } => 0,
-        StepAnswer::Waiting(_) => 255,
+        StepAnswer::Waiting(bytes) => {
+            *lacking = bytes;
+            255
+        }
         StepAnswer::Refused(reason) => refusal::number(reason) as u32,
     }
 }
@@ -62,17 +66,7 @@ pub fn unit_words(command: Command, memory: u32, n: u32) -> [u32; 6]
     }
 }
 
-// The bytes lacking, 0 unless a step waits.
-pub fn step_lacking(answer: StepAnswer) -> u32
-    ensures { λ r. ⌜ r ≡ lackingOf (meaning answer) ⌝ }
-{
-    match answer {
-        StepAnswer::Done { .. } => 0,
-        StepAnswer::Waiting(lacking) => lacking,
-        StepAnswer::Refused(_) => 0,
-    }
-}
-
+// The number of why a run stopped.
 pub fn stop_number(stop: Stop) -> u32
     ensures { λ r. ⌜ r ≡ firstOf (meaningOfStop stop) ⌝ }
 {

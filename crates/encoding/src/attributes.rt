@@ -6,10 +6,12 @@ ghost use mathlib.Core.Path.{_≡_};
 ghost use mathlib.Core.List.{[], _∷_};
 ghost use lib.Ieee.{binary32, toBits};
 ghost use Rattle.vertex.specs.Answers.{told, tripleBits};
-ghost use Rattle.encoding.specs.Told.{padded, descriptorOf};
+ghost use Rattle.encoding.specs.Told.{padded};
+ghost use Rattle.encoding.specs.Named.{formatNamed};
 
+// The vertex format that five words name.
 pub fn descriptor(words: &[u32; 5]) -> Descriptor
-    ensures { λ r. ⌜ r ≡ descriptorOf (now (words .entry)) ⌝ }
+    ensures { λ r. ⌜ r ≡ formatNamed (now (words .entry)) ⌝ }
 {
     Descriptor {
         vcd0: words[0],
@@ -30,6 +32,7 @@ fn bits(x: f32) -> u32
     f32::to_bits(x)
 }
 
+// Three floats by their bits.
 fn triple_words(t: Triple) -> [u32; 3]
     ensures { λ r. ⌜ r ≡ tripleBits t [] ⌝ }
 {

@@ -111,6 +111,7 @@ fn command_by(kind: u32, a: u32, b: u32, c: u32) -> Command
     }
 }
 
+// The command that five words name.
 pub fn command(words: &[u32; 5]) -> Command
     ensures { λ r. ⌜ numbersOf r ≡ commandNamed (now (words .entry)) ⌝ }
 {

@@ -3,10 +3,9 @@ mod answers;
 mod attributes;
 mod commands;
 
-pub use answers::step_lacking;
-pub use answers::step_number;
 pub use answers::stop_lacking;
 pub use answers::stop_number;
+pub use answers::tell_step;
 pub use answers::unit_words;
 pub use attributes::attribute_words;
 pub use attributes::descriptor;

@@ -13,7 +13,8 @@ use lib.ListN.{length, getD, set, take, drop, length-drop}
 use lib.Seq.{take-suc, getD-drop}
 use borrow.Author.Tests.{ltb-true, lt-ltb, le-ltb}
 use Rattle.laws.proofs.Cases.{and-left, and-right, order}
-use Rattle.processor.specs.Gate.{allBelow, Joins}
+use Rattle.processor.specs.Gate.{allBelow}
+use Rattle.processor.specs.Joined.{Joins}
 
 and-assoc : (a b c : Bool) → (a && b) && c ≡ a && (b && c)
 and-assoc true b c = refl

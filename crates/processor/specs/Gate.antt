@@ -80,7 +80,3 @@ gateOf s ring = gateBy (s .fifo) (s .cp) (s .bp) (s .draw) ring (length (s .xf))
 abbrev pub meaningOfGate : Gate → List ℕ
 meaningOfGate Passed = 0 ∷ []
 meaningOfGate (Refused r) = number r ∷ []
-
--- for the code's own functions: a number that is below a power of two exactly where every number of a list is
-pub record Joins (joined : ℕ) (l : List ℕ) : Type 0 where
-  pub below : (k : ℕ) → ltb joined (2 ^ k) ≡ allBelow (2 ^ k) l

@@ -1,5 +1,6 @@
 pub mod State
 pub mod Gate
+pub mod Joined
 pub mod Step
 pub mod Cursor
 pub mod Vertices

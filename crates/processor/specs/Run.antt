@@ -33,11 +33,13 @@ stopOf (unit c m n) = 0 ∷ []
 stopOf (waiting k) = 255 ∷ k ∷ []
 stopOf (refused r) = r ∷ []
 
+-- the same of the code's enum
 abbrev pub meaningOfStop : Stop → List ℕ
 meaningOfStop Limit = 0 ∷ []
 meaningOfStop (Waiting k) = 255 ∷ k ∷ []
 meaningOfStop (Refused r) = number r ∷ []
 
+-- a run that ended so
 abbrev pub ended : List Taken → List ℕ → State → Ended
 ended units stop s = record { units = units; stop = stop; state = s }
 

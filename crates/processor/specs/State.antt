@@ -20,6 +20,7 @@ pub record State : Type 0 where
   pub xf : List ℕ
   pub buffer : List ℕ
 
+-- the state of these parts
 abbrev pub stateOf : Fifo → List ℕ → List ℕ → Draw → List ℕ → List ℕ → State
 stateOf f cp bp draw xf buffer = record { fifo = f; cp = cp; bp = bp; draw = draw; xf = xf; buffer = buffer }
 

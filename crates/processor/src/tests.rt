@@ -9,7 +9,8 @@ ghost use Prim.Native.Nat.{_+_, _≤_};
 ghost use lib.ListN.{length, take, drop};
 ghost use mathlib.Core.List.{[], _∷_};
 ghost use Rattle.refusal.specs.Number.{number};
-ghost use Rattle.processor.specs.Gate.{Joins, cpFits, drawFits, registersFit, stateFits, gateBy, meaningOfGate};
+ghost use Rattle.processor.specs.Joined.{Joins};
+ghost use Rattle.processor.specs.Gate.{cpFits, drawFits, registersFit, stateFits, gateBy, meaningOfGate};
 
 // n values from a place on, joined bit by bit: below a power of two exactly where each of them is.
 fn join(values: &[u32], from: usize, n: usize) -> u32

@@ -15,7 +15,6 @@ use Rattle.fifo.specs.declared.Fifo.{Fifo}
 use Rattle.command.specs.declared.Draw.{Draw}
 use Rattle.fifo.specs.Window.{readyBy}
 use Rattle.processor.specs.Gate.{bpFits, cpFits, controlFits, drawFits, registersFit, stateFits, gateBy, gateOf}
-use Rattle.words.specs.declared.state.Front.{Front}
 use Rattle.words.specs.declared.state.Front.the-variants.{Held, Wide}
 use Rattle.words.specs.State.{windowOf, leftOf, drawOf, fifoOf, cpOf, bpOf, stateAt}
 use Rattle.words.specs.Front.{fits, frontOf}
@@ -41,13 +40,25 @@ module _ (l : List ℕ) where
       pub wide-format : getD l 8 0 < 2 ^ 8 → 2 ^ 8 ≤ getD l 9 0 → Wide ≡ frontOf l
       unfolding frontOf fits
       wide-format p h =
-          rw (lt-ltb (getD l 6 0) (2 ^ 16) narrow, ne-eqb (getD l 7 0) 0 drawn, lt-ltb (getD l 8 0) (2 ^ 8) p, le-ltb (getD l 9 0) (2 ^ 8) h)
+          rw (
+            lt-ltb (getD l 6 0) (2 ^ 16) narrow,
+            ne-eqb (getD l 7 0) 0 drawn,
+            lt-ltb (getD l 8 0) (2 ^ 8) p,
+            le-ltb (getD l 9 0)
+                (2 ^ 8) h,
+          )
 
       pub held-open : {left : ℕ} → getD l 8 0 < 2 ^ 8 → getD l 9 0 < 2 ^ 8 → left ≡ leftOf (getD l 7 0) (getD l 10 0)
           → Held (record { window = w; control = getD l 6 0 }) (Open (getD l 8 0) (getD l 9 0) left) ≡ frontOf l
       unfolding frontOf fits fifoOf drawOf
       held-open p q e =
-          rw (lt-ltb (getD l 6 0) (2 ^ 16) narrow, ne-eqb (getD l 7 0) 0 drawn, lt-ltb (getD l 8 0) (2 ^ 8) p, lt-ltb (getD l 9 0) (2 ^ 8) q)
+          rw (
+            lt-ltb (getD l 6 0) (2 ^ 16) narrow,
+            ne-eqb (getD l 7 0) 0 drawn,
+            lt-ltb (getD l 8 0) (2 ^ 8) p,
+            lt-ltb (getD l 9 0)
+                (2 ^ 8) q,
+          )
           (λ i. Held (record { window = of-window i; control = getD l 6 0 }) (Open (getD l 8 0) (getD l 9 0) (e i)))
 
 -- the front's two answers told apart

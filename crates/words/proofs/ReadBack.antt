@@ -1,10 +1,8 @@
 -- Reading the words of a state gives the state back.
 use mathlib.Core.Path.{_≡_, refl, ap, _∙_}
-use mathlib.Core.Bool.{cond}
 use mathlib.Core.List.{List}
 use Prim.Native.Nat.{ℕ, _^_}
 use native.Mathlib.Nat.{le-of-eq}
-use lib.Dec.{ltb}
 use lib.ListN.{length, take}
 use lib.Seq.{take-at, drop-at, take-all}
 use borrow.Author.Tests.{lt-ltb}
@@ -12,7 +10,7 @@ use Rattle.command.specs.declared.Draw.{Draw}
 use Rattle.command.specs.declared.Draw.the-variants.{Closed, Open}
 use Rattle.fifo.specs.declared.Fifo.{Fifo}
 use Rattle.processor.specs.State.{State}
-use Rattle.words.specs.State.{fifoOf, drawOf, cpOf, bpOf, stateAt, wordsBy, wordsOf, HoldsDraw, Holds}
+use Rattle.words.specs.State.{fifoOf, drawOf, cpOf, bpOf, stateAt, wordsBy, stateWords, HoldsDraw, Holds}
 
 module _ (f : Fifo) (cp bp : List ℕ) where
   words : Draw → List ℕ
@@ -37,7 +35,7 @@ module _ (f : Fifo) (cp bp : List ℕ) where
   bp-back Closed h k = ap (λ (x : List ℕ). take 256 x) (drop-at cp bp 60 h) ∙ take-all 256 bp (le-of-eq k)
   bp-back (Open primitive format left) h k = ap (λ (x : List ℕ). take 256 x) (drop-at cp bp 60 h) ∙ take-all 256 bp (le-of-eq k)
 
-pub read-back : (s : State) → Holds s → stateAt (wordsOf s) (s .xf) (s .buffer) ≡ s
+pub read-back : (s : State) → Holds s → stateAt (stateWords s) (s .xf) (s .buffer) ≡ s
 unfolding words
 read-back s h = λ i. record {
   fifo = fifo-back (s .fifo) (s .cp) (s .bp) (s .draw) i;

@@ -17,7 +17,7 @@ use Rattle.command.specs.declared.Draw.the-variants.{Closed, Open}
 use Rattle.fifo.specs.declared.Fifo.{Fifo}
 use Rattle.fifo.specs.Feeding.{put}
 use Rattle.words.specs.State.{cpOf, bpOf, fifoWords, drawWords, wordsBy}
-use Rattle.words.specs.Front.{unitWords}
+use Rattle.words.specs.Front.{wordsAfterUnit}
 
 -- a list stored over all of another of its length
 pub put-whole : (d l : List ℕ) → length l ≡ length d → put d 0 l ≡ l
@@ -37,7 +37,9 @@ put-middle : (a old new b : List ℕ) (at : ℕ) → length a ≡ at → length 
 put-middle a old new b at n e =
     let front : take at (a ++ (old ++ b)) ≡ a = take-at a (old ++ b) at n in
     let rest : drop (at + length new) (a ++ (old ++ b)) ≡ b =
-    sym (drop-drop (length new) at (a ++ (old ++ b))) ∙ ap (λ (x : List ℕ). drop (length new) x) (drop-at a (old ++ b) at n) ∙ drop-at old b (length new) e in
+    sym (drop-drop (length new) at (a ++ (old ++ b)))
+    ∙ ap (λ (x : List ℕ). drop (length new) x) (drop-at a (old ++ b) at n)
+    ∙ drop-at old b (length new) e in
     (λ i. (front i ++ new) ++ rest i) ∙ append-assoc a new b
 
 draw-length : (draw : Draw) → length (drawWords draw) ≡ 4
@@ -56,7 +58,8 @@ module _ (f : Fifo) (draw : Draw) where
       ∙ put-middle (fifoWords f ++ drawWords draw) cp cp' bp 11 ahead (h ∙ sym k)
       ∙ append-assoc (fifoWords f) (drawWords draw) (cp' ++ bp)
 
-  pub put-bp : (cp bp bp' : List ℕ) → length cp ≡ 60 → length bp ≡ 256 → length bp' ≡ 256 → put (wordsBy f cp bp draw) 71 bp' ≡ wordsBy f cp bp' draw
+  pub put-bp : (cp bp bp' : List ℕ) → length cp ≡ 60 → length bp ≡ 256 → length bp' ≡ 256
+      → put (wordsBy f cp bp draw) 71 bp' ≡ wordsBy f cp bp' draw
   unfolding wordsBy
   put-bp cp bp bp' h k m =
       let a : List ℕ = (fifoWords f ++ drawWords draw) ++ cp in
@@ -100,14 +103,14 @@ module _ (f : Fifo) (draw : Draw) (l : List ℕ) (long : length l ≡ 327) where
 
   -- the CP registers of a load, the BP registers of a load
   pub cp-saved : (cp bp : List ℕ) {once out : List ℕ} → length cp ≡ 60 → once ≡ wordsBy f (cpOf l) (bpOf l) draw → out ≡ put once 11 cp
-      → out ≡ unitWords l 0x08 f cp bp draw
-  unfolding unitWords
+      → out ≡ wordsAfterUnit l 0x08 f cp bp draw
+  unfolding wordsAfterUnit
   cp-saved cp bp n e1 e2 =
       e2 ∙ ap (λ (x : List ℕ). put x 11 cp) e1 ∙ put-cp f draw (cpOf l) cp (bpOf l) cp-length n
 
   pub bp-saved : (cp bp : List ℕ) {once out : List ℕ} → length bp ≡ 256 → once ≡ wordsBy f (cpOf l) (bpOf l) draw → out ≡ put once 71 bp
-      → out ≡ unitWords l 0x61 f cp bp draw
-  unfolding unitWords
+      → out ≡ wordsAfterUnit l 0x61 f cp bp draw
+  unfolding wordsAfterUnit
   bp-saved cp bp n e1 e2 =
       e2 ∙ ap (λ (x : List ℕ). put x 71 bp) e1 ∙ put-bp f draw (cpOf l) (bpOf l) bp cp-length bp-length n
 
@@ -120,9 +123,9 @@ module _ (f : Fifo) (draw : Draw) (l : List ℕ) (long : length l ≡ 327) where
       ∙ put-bp f draw cp (bpOf l) bp n bp-length m
 
 -- a command that loads no register of the two
-pub no-load : (c : Command) → OneOf (0 ∷ 1 ∷ 2 ∷ 4 ∷ 5 ∷ 6 ∷ 8 ∷ 9 ∷ []) (tagOf Commands.the-type c) → (l : List ℕ) (f : Fifo) (cp bp : List ℕ) (draw : Draw)
-    → wordsBy f (cpOf l) (bpOf l) draw ≡ unitWords l (kindOf (numbersOf c)) f cp bp draw
-unfolding unitWords
+pub no-load : (c : Command) → OneOf (0 ∷ 1 ∷ 2 ∷ 4 ∷ 5 ∷ 6 ∷ 8 ∷ 9 ∷ []) (tagOf Commands.the-type c)
+    → (l : List ℕ) (f : Fifo) (cp bp : List ℕ) (draw : Draw) → wordsBy f (cpOf l) (bpOf l) draw ≡ wordsAfterUnit l (kindOf (numbersOf c)) f cp bp draw
+unfolding wordsAfterUnit
 no-load NoOperation h l f cp bp draw = refl
 no-load InvalidateCache h l f cp bp draw = refl
 no-load Metrics h l f cp bp draw = refl

@@ -14,9 +14,10 @@ use Rattle.words.specs.State.{fifoOf, drawOf, cpOf, bpOf, wordsBy}
 unfoldable pub fits : List ℕ → Bool
 fits l = ltb (getD l 6 0) (2 ^ 16) && (eqb (getD l 7 0) 0 || (ltb (getD l 8 0) (2 ^ 8) && ltb (getD l 9 0) (2 ^ 8)))
 
+-- the fifo and the draw, where they fit
 unfoldable pub frontOf : List ℕ → Front
 frontOf l = cond (fits l) (Held (fifoOf l) (drawOf l)) Wide
 
 -- the words after a unit whose command has this kind: of the registers only those that it loads are stored, and the others stay
-unfoldable pub unitWords : List ℕ → ℕ → Fifo → List ℕ → List ℕ → Draw → List ℕ
-unitWords l kind f cp bp draw = wordsBy f (cond (eqb kind 0x08) cp (cpOf l)) (cond (eqb kind 0x61) bp (bpOf l)) draw
+unfoldable pub wordsAfterUnit : List ℕ → ℕ → Fifo → List ℕ → List ℕ → Draw → List ℕ
+wordsAfterUnit l kind f cp bp draw = wordsBy f (cond (eqb kind 0x08) cp (cpOf l)) (cond (eqb kind 0x61) bp (bpOf l)) draw

@@ -14,10 +14,12 @@ use Rattle.processor.specs.State.{State, stateOf, freshMachine}
 
 -- ---- what words say: each number as it stands, so that document 01's refusal 1 finds those that are out of range
 
+-- the ring window: words 0 to 5
 abbrev pub windowOf : List ℕ → Window
 windowOf l =
     record { start = getD l 0 0; end = getD l 1 0; high = getD l 2 0; low = getD l 3 0; write = getD l 4 0; read = getD l 5 0 }
 
+-- the window and the control word
 unfoldable pub fifoOf : List ℕ → Fifo
 fifoOf l = record { window = windowOf l; control = getD l 6 0 }
 
@@ -30,9 +32,11 @@ leftOf flag left = cond (eqb flag 1 && ltb left (2 ^ 16)) left 0
 unfoldable pub drawOf : List ℕ → Draw
 drawOf l = cond (eqb (getD l 7 0) 0) Closed (Open (getD l 8 0) (getD l 9 0) (leftOf (getD l 7 0) (getD l 10 0)))
 
+-- the CP registers: words 11 to 70
 unfoldable pub cpOf : List ℕ → List ℕ
 cpOf l = take 60 (drop 11 l)
 
+-- the BP registers: words 71 to 326
 unfoldable pub bpOf : List ℕ → List ℕ
 bpOf l = take 256 (drop 71 l)
 
@@ -42,38 +46,44 @@ stateAt l xf vertex = stateOf (fifoOf l) (cpOf l) (bpOf l) (drawOf l) xf vertex
 
 -- ---- the words of a state
 
+-- words 0 to 5
 abbrev pub windowWords : Window → List ℕ
 windowWords w = w .start ∷ w .end ∷ w .high ∷ w .low ∷ w .write ∷ w .read ∷ []
 
+-- words 0 to 6
 abbrev pub fifoWords : Fifo → List ℕ
 fifoWords f = windowWords (f .window) ++ (f .control ∷ [])
 
--- while no draw is open, words 7 to 10 are 0
+-- words 7 to 10: all 0 while no draw is open
 abbrev pub drawWords : Draw → List ℕ
 drawWords Closed = 0 ∷ 0 ∷ 0 ∷ 0 ∷ []
 drawWords (Open primitive format left) = 1 ∷ primitive ∷ format ∷ left ∷ []
 
+-- all words, by the parts of a state
 unfoldable pub wordsBy : Fifo → List ℕ → List ℕ → Draw → List ℕ
 wordsBy f cp bp draw = fifoWords f ++ (drawWords draw ++ (cp ++ bp))
 
-abbrev pub wordsOf : State → List ℕ
-wordsOf s = wordsBy (s .fifo) (s .cp) (s .bp) (s .draw)
+-- all words of a state
+abbrev pub stateWords : State → List ℕ
+stateWords s = wordsBy (s .fifo) (s .cp) (s .bp) (s .draw)
 
 -- the words of the fresh state
 abbrev pub freshWords : List ℕ
 freshWords =
     wordsBy (freshMachine .fifo) (freshMachine .registers .cp) (freshMachine .registers .bp) (freshMachine .registers .draw)
 
--- words with another fifo: words 7 and on stay as they are
-unfoldable pub withFifo : List ℕ → Fifo → List ℕ
-withFifo l f = fifoWords f ++ drop 7 l
+-- words with another fifo stored: words 7 and on stay as they are
+unfoldable pub fifoStored : List ℕ → Fifo → List ℕ
+fifoStored l f = fifoWords f ++ drop 7 l
 
 -- ---- states that their words say whole (`read-back`): the arrays have their lengths, and an open draw's count has 16 bits
 
+-- of the draw
 abbrev pub HoldsDraw : Draw → Type 0
 HoldsDraw Closed = Unit {0}
 HoldsDraw (Open primitive format left) = left < 2 ^ 16
 
+-- of the whole state
 pub record Holds (s : State) : Type 0 where
   pub cp-length : length (s .cp) ≡ 60
   pub bp-length : length (s .bp) ≡ 256

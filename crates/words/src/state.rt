@@ -10,8 +10,8 @@ ghost use Rattle.command.specs.Command.{kindOf, numbersOf};
 ghost use Rattle.fifo.specs.Feeding.{put};
 ghost use Rattle.fifo.specs.Window.{withWindow, withWrite, withControl};
 ghost use Rattle.words.specs.State.{windowOf, fifoOf, leftOf, cpOf, bpOf};
-ghost use Rattle.words.specs.State.{windowWords, fifoWords, drawWords, wordsBy, withFifo};
-ghost use Rattle.words.specs.Front.{frontOf, unitWords};
+ghost use Rattle.words.specs.State.{windowWords, fifoWords, drawWords, wordsBy, fifoStored};
+ghost use Rattle.words.specs.Front.{frontOf, wordsAfterUnit};
 
 // Words 0 to 10 in the types of the fifo and the draw, or too wide for them.
 pub enum Front {
@@ -116,6 +116,7 @@ pub fn bp(words: &[u32; 327]) -> [u32; 256]
     bp
 }
 
+// Words 0 to 5.
 fn window_words(window: Window) -> [u32; 6]
     ensures { λ r. ⌜ r ≡ windowWords window ⌝ }
 {
@@ -129,6 +130,7 @@ fn window_words(window: Window) -> [u32; 6]
     ]
 }
 
+// Words 0 to 6.
 fn fifo_words(fifo: Fifo) -> [u32; 7]
     ensures { λ r. ⌜ r ≡ fifoWords fifo ⌝ }
 {
@@ -144,7 +146,7 @@ fn fifo_words(fifo: Fifo) -> [u32; 7]
     ]
 }
 
-// Zeros while no draw is open.
+// Words 7 to 10: zeros while no draw is open.
 fn draw_words(draw: Draw) -> [u32; 4]
     ensures { λ r. ⌜ r ≡ drawWords draw ⌝ }
 {
@@ -160,7 +162,7 @@ fn draw_words(draw: Draw) -> [u32; 4]
 
 // Writes words 0 to 5.
 pub fn save_window(state: &mut [u32; 327], window: Window)
-    ensures { λ _. ⌜ now (state .exit) ≡ withFifo (now (state .entry)) (withWindow (fifoOf (now (state .entry))) window) ⌝ }
+    ensures { λ _. ⌜ now (state .exit) ≡ fifoStored (now (state .entry)) (withWindow (fifoOf (now (state .entry))) window) ⌝ }
 {
     let front = window_words(window);
     store(state, 0, &front);
@@ -169,7 +171,7 @@ pub fn save_window(state: &mut [u32; 327], window: Window)
 // Writes the write pointer, word 4.
 pub fn save_write(state: &mut [u32; 327], pointer: u32)
     ensures { λ _. ⌜ now (state .exit)
-        ≡ withFifo (now (state .entry)) (withWindow (fifoOf (now (state .entry))) (withWrite (windowOf (now (state .entry))) pointer)) ⌝ }
+        ≡ fifoStored (now (state .entry)) (withWindow (fifoOf (now (state .entry))) (withWrite (windowOf (now (state .entry))) pointer)) ⌝ }
 {
     let one = [pointer];
     store(state, 4, &one);
@@ -177,7 +179,7 @@ pub fn save_write(state: &mut [u32; 327], pointer: u32)
 
 // Writes the control word, word 6.
 pub fn save_control(state: &mut [u32; 327], control: u16)
-    ensures { λ _. ⌜ now (state .exit) ≡ withFifo (now (state .entry)) (withControl (fifoOf (now (state .entry))) control) ⌝ }
+    ensures { λ _. ⌜ now (state .exit) ≡ fifoStored (now (state .entry)) (withControl (fifoOf (now (state .entry))) control) ⌝ }
 {
     let one = [control as u32];
     store(state, 6, &one);
@@ -213,7 +215,7 @@ pub fn save_unit(
     draw: Draw,
 )
     ensures { λ _. ⌜ now (state .exit)
-        ≡ unitWords (now (state .entry)) (kindOf (numbersOf command)) fifo (now (cp .entry)) (now (bp .entry)) draw ⌝ }
+        ≡ wordsAfterUnit (now (state .entry)) (kindOf (numbersOf command)) fifo (now (cp .entry)) (now (bp .entry)) draw ⌝ }
 {
     save_front(state, fifo, draw);
     match command {

@@ -37,8 +37,8 @@ pub trait Machine {
     fn write_register(&mut self, offset: u16, value: u16) -> u32;
     fn feed(&mut self, bytes: &[u8]) -> u32;
     fn step(&mut self) -> Self::Step;
-    /// The answer number, the unit's six words and the bytes lacking, for a
-    /// step that took so many bytes off the ring.
+    /// The answer number, the unit's six words and the bytes lacking, 0 where
+    /// they are not told, for a step that took so many bytes off the ring.
     fn step_words(step: &Self::Step, bytes: u32) -> [u32; 8];
     /// The answer number, units done, bytes lacking.
     fn run(&mut self, limit: u32) -> [u32; 3];
@@ -59,7 +59,7 @@ pub struct Proved {
 }
 
 impl Machine for Proved {
-    /// The answer number, the unit, the bytes lacking.
+    /// The answer number, the unit, the bytes lacking; 0 where they are not told.
     type Step = (u32, UnitWords, u32);
 
     fn fresh() -> Proved {

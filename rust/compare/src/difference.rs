@@ -212,8 +212,9 @@ impl Made<'_> {
         first(&of(self.before), &of(&self.worlds[0])).map(both_changed)
     }
 
-    /// The call as it may be after its answer: a refused or waiting one as it
-    /// was but for its report, an accepted one with its values.
+    /// The call as it may be after its answer: a refused one as it was, a
+    /// waiting step with the bytes lacking and else as it was, an accepted one
+    /// with its values. A run's report is told whatever the answer.
     fn rightful_call(&self) -> Call {
         let mut rightful = self.call.clone();
         let done = self.answers[0] == DONE;
@@ -226,7 +227,9 @@ impl Made<'_> {
                     lacking: l,
                 },
             ) => {
-                *lacking = if waits { *l } else { 0 };
+                if waits {
+                    *lacking = *l;
+                }
                 if done {
                     *unit = *u;
                 }

@@ -145,7 +145,7 @@ impl Duo {
         self.call(Call::Feed { bytes }).0
     }
 
-    /// The answer, the unit, the bytes lacking.
+    /// The answer, the unit, the bytes lacking; what is not told is chance.
     pub fn step(&mut self) -> (u32, UnitWords, u32) {
         let unit = self.garbage.array();
         let lacking = self.garbage.u32();

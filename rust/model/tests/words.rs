@@ -78,12 +78,12 @@ impl Bench {
     }
 }
 
-/// A step and a run by 1, without a change but of the reports.
+/// A step and a run by 1, without a change but of the run's report.
 fn refused_by_1(changes: &[(usize, u32)]) {
     let mut bench = Bench::with(changes);
     let before = bench.state;
     assert_eq!(bench.step(), 1, "{changes:X?}");
-    assert_eq!((bench.unit, bench.lacking), ([BEFORE; 6], 0));
+    assert_eq!((bench.unit, bench.lacking), ([BEFORE; 6], BEFORE));
     let mut report = [BEFORE; 2];
     assert_eq!(bench.run(0, &mut report), 1);
     assert_eq!(report, [0, 0]);
@@ -124,7 +124,23 @@ fn words_of_no_draw_are_not_looked_at() {
     assert_eq!(bench.state[DRAW..=10], before[DRAW..=10]);
     assert_eq!(bench.step(), DONE);
     assert_eq!(bench.state[DRAW..=10], [0; 4]);
-    assert_eq!((bench.unit, bench.lacking), ([0x48, 0, 0, 0, 0, 1], 0));
+    assert_eq!((bench.unit, bench.lacking), ([0x48, 0, 0, 0, 0, 1], 1));
+}
+
+/// "Where it waits, *lacking is how many bytes the unit lacks; else it stays."
+#[test]
+fn bytes_lacking_are_told_by_waiting_alone() {
+    let mut bench = Bench::new();
+    assert_eq!(bench.feed(&[0x48, 0x61, 0x41]), DONE);
+    assert_eq!((bench.step(), bench.lacking), (DONE, BEFORE));
+    assert_eq!((bench.step(), bench.lacking), (WAITING, 3));
+    assert_eq!(bench.feed(&[0, 0, 5, 0x02]), DONE);
+    assert_eq!((bench.step(), bench.lacking), (DONE, 3));
+    assert_eq!((bench.step(), bench.lacking), (6, 3));
+    bench.state[CONTROL] = 0;
+    assert_eq!((bench.step(), bench.lacking), (4, 3));
+    let mut report = [BEFORE; 2];
+    assert_eq!((bench.run(1, &mut report), report), (4, [0, 0]));
 }
 
 #[test]

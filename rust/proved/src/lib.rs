@@ -6,11 +6,11 @@ pub const STATE_WORDS: usize = 327;
 pub const ATTRIBUTES: usize = 21;
 
 pub type StateWords = [u32; STATE_WORDS];
-/// VCD 0 and 1, VAT 0 to 2.
+/// Groups 0 and 1 of the VCD, groups 0 to 2 of one format's VAT.
 pub type FormatWords = [u32; 5];
 /// Kind, a, b, c, d.
 pub type CommandWords = [u32; 5];
-/// A command's words, and the unit's bytes.
+/// A command's words, and how many bytes the unit has.
 pub type UnitWords = [u32; 6];
 /// Units done, bytes lacking.
 pub type ReportWords = [u32; 2];
@@ -159,6 +159,7 @@ pub fn feed(state: &mut StateWords, ring: &mut [u8], bytes: &[u8]) -> u32 {
     }
 }
 
+/// `lacking` is written only where the step waits.
 pub fn step(
     state: &mut StateWords,
     ring: &[u8],

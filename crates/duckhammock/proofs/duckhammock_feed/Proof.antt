@@ -20,7 +20,9 @@ same-length : tie.Need-same-length
 same-length c = search needs
 
 returns : tie.Need-returns
-returns c = feeds-refused _ (c .before .before .before .before .before .before .before .before .before .window .ensures) (c .before .before .before .before .before .before .before .feed .ensures) _ (c .before .before .answer .given .1) (c .refused .ensures)
+returns c =
+    let k = c .before .before .before .before .before .before .before in
+    feeds-refused _ (k .before .before .window .ensures) (k .feed .ensures) _ (c .before .before .answer .given .1) (c .refused .ensures)
 
 enum-told : tie.Need-enum-told
 enum-told c = search needs
@@ -32,7 +34,9 @@ same-length-2 : tie.Need-same-length-2
 same-length-2 c = search needs
 
 returns-2 : tie.Need-returns-2
-returns-2 c = feeds-done _ (c .before .before .before .before .before .before .before .before .before .window .ensures) (c .before .before .before .before .before .before .before .feed .ensures) (c .save-write .ensures) (c .before .before .enum-told .given .1)
+returns-2 c =
+    let k = c .before .before .before .before .before .before .before in
+    feeds-done _ (k .before .before .window .ensures) (k .feed .ensures) (c .save-write .ensures) (c .before .before .enum-told .given .1)
 
 pub duckhammock-feed-spec : {M : Type 1} → statement M
 duckhammock-feed-spec =

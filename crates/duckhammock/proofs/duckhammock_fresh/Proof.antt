@@ -13,7 +13,10 @@ save-requires : tie.Need-save-requires
 save-requires c κs = search needs
 
 returns : tie.Need-returns
-returns c = c .save .ensures ∙ ap (λ (m : Machine). wordsBy (m .fifo) (m .registers .cp) (m .registers .bp) (m .registers .draw)) (c .before .before .before .before .before .before .before .before .fresh .ensures)
+returns c =
+    c .save .ensures
+    ∙ ap (λ (m : Machine). wordsBy (m .fifo) (m .registers .cp) (m .registers .bp) (m .registers .draw))
+    (c .before .before .before .before .before .before .before .before .fresh .ensures)
 
 pub duckhammock-fresh-spec : {M : Type 1} → statement M
 duckhammock-fresh-spec = tie.close (tie.spec fresh-requires save-requires returns)

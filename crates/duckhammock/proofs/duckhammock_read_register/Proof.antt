@@ -32,10 +32,17 @@ cast-value : tie.Need-cast-value
 cast-value c = search needs
 
 returns-2 : tie.Need-returns-2
-returns-2 c = reads-refused _ _ _ (c .before .before .before .before .before .before .before .if1 .left) (c .before .before .before .before .before .before .window .ensures) (c .before .before .before .before .read-register .ensures) _ (c .before .before .reading .given .1) (c .refused .ensures)
+returns-2 c =
+    let k = c .before .before .before .before in
+    let w = k .before .before in
+    reads-refused _ _ _ (w .before .if1 .left) (w .window .ensures) (k .read-register .ensures) _ (c .before .before .reading .given .1)
+    (c .refused .ensures)
 
 returns-3 : tie.Need-returns-3
-returns-3 c = reads-done _ _ _ (c .before .before .before .before .before .before .if1 .left) (c .before .before .before .before .before .window .ensures) (c .before .before .before .read-register .ensures) _ (c .before .reading2 .given .1)
+returns-3 c =
+    let k = c .before .before .before in
+    let w = k .before .before in
+    reads-done _ _ _ (w .before .if1 .left) (w .window .ensures) (k .read-register .ensures) _ (c .before .reading2 .given .1)
 
 pub duckhammock-read-register-spec : {M : Type 1} → statement M
 duckhammock-read-register-spec =

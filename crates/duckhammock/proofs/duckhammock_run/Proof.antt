@@ -22,7 +22,8 @@ refused-requires c κs = search needs
 returns : tie.Need-returns
 returns c =
     let a = c .before .before .before .before .before .before .before .before .before .args in
-    let g = wide-refused (a .state .now) (a .xf .now) (a .vertex .now) _ (sym (c .before .before .enum-told .given .1) ∙ c .before .before .before .before .read-front .ensures) in
+    let h = sym (c .before .before .enum-told .given .1) ∙ c .before .before .before .before .read-front .ensures in
+    let g = wide-refused (a .state .now) (a .xf .now) (a .vertex .now) _ h in
     run-wide (a .ring .now) (a .limit) (stateAt (a .state .now) (a .xf .now) (a .vertex .now)) (a .state .now) g (c .refused .ensures) refl
 
 gate-number-requires : tie.Need-gate-number-requires
@@ -33,7 +34,8 @@ returns-2 c =
     let f = c .before .before .before .before .before in
     let r = f .before .before in
     let a = r .before .before .before .before .before .args in
-    let s = handed (a .state .now) (a .xf .now) (a .vertex .now) (sym (f .front .given .1) ∙ r .read-front .ensures) refl refl in
+    let h = sym (f .front .given .1) ∙ r .read-front .ensures in
+    let s = handed (a .state .now) (a .xf .now) (a .vertex .now) h refl refl in
     rw (← s) (run-zero (a .ring .now) (a .limit) _ (a .state .now) (c .before .before .before .if1 .taken) (c .gate-number .ensures))
 
 cp-requires : tie.Need-cp-requires
@@ -65,11 +67,12 @@ returns-3 c =
     let f = q .before .before .before .before in
     let r = f .before .before in
     let a = r .before .before .before .before .before .args in
-    let s = handed (a .state .now) (a .xf .now) (a .vertex .now) (sym (f .front .given .1) ∙ r .read-front .ensures)
-    (q .cp .ensures) (b .bp .ensures) in
+    let h = sym (f .front .given .1) ∙ r .read-front .ensures in
+    let s = handed (a .state .now) (a .xf .now) (a .vertex .now) h (q .cp .ensures) (b .bp .ensures) in
     rw (← s)
-    (run-none (a .ring .now) (a .limit) _ (a .state .now) (p .run .ensures) (c .stop-number .ensures) (c .before .before .stop-lacking .ensures) refl
-    (c .before .if2 .taken))
+    (run-none (a .ring .now) (a .limit) _ (a .state .now) (p .run .ensures) (c .stop-number .ensures)
+    (c .before .before .stop-lacking .ensures)
+    refl (c .before .if2 .taken))
 
 save-requires : tie.Need-save-requires
 save-requires c κs = search needs
@@ -91,11 +94,12 @@ returns-4 c =
     let f = q .before .before .before .before in
     let r = f .before .before in
     let a = r .before .before .before .before .before .args in
-    let s = handed (a .state .now) (a .xf .now) (a .vertex .now) (sym (f .front .given .1) ∙ r .read-front .ensures)
-    (q .cp .ensures) (b .bp .ensures) in
+    let h = sym (f .front .given .1) ∙ r .read-front .ensures in
+    let s = handed (a .state .now) (a .xf .now) (a .vertex .now) h (q .cp .ensures) (b .bp .ensures) in
     rw (← s)
-    (run-some (a .ring .now) (a .limit) _ (a .state .now) (p .run .ensures) (c .stop-number2 .ensures) (c .before .before .before .before .before .before .before .stop-lacking .ensures) refl
-    (c .before .before .before .before .before .before .if2 .left) (c .before .save .ensures))
+    (run-some (a .ring .now) (a .limit) _ (a .state .now) (p .run .ensures) (c .stop-number2 .ensures)
+    (c .before .before .before .before .before .before .before .stop-lacking .ensures)
+    refl (c .before .before .before .before .before .before .if2 .left) (c .before .save .ensures))
 
 pub duckhammock-run-spec : {M : Type 1} → statement M
 duckhammock-run-spec =

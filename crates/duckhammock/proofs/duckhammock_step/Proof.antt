@@ -1,5 +1,5 @@
 -- `duckhammock::duckhammock_step` meets its contract: it is a step of the state that the words say; they are stored where a unit was done.
-use mathlib.Core.Path.{refl, sym, _∙_}
+use mathlib.Core.Path.{sym, _∙_}
 use Rattle.words.specs.State.{stateAt}
 use Rattle.words.proofs.Fits.{wide-refused}
 use Rattle.duckhammock.proofs.Units.{handed, none, step-wide, step-none, step-done}
@@ -22,8 +22,10 @@ refused-requires c κs = search needs
 returns : tie.Need-returns
 returns c =
     let a = c .before .before .before .before .before .before .before .before .args in
-    let g = wide-refused (a .state .now) (a .xf .now) (a .vertex .now) _ (sym (c .before .enum-told .given .1) ∙ c .before .before .before .read-front .ensures) in
-    step-wide (a .ring .now) (stateAt (a .state .now) (a .xf .now) (a .vertex .now)) (a .state .now) (a .unit .now) g (c .refused .ensures) refl
+    let h = sym (c .before .enum-told .given .1) ∙ c .before .before .before .read-front .ensures in
+    let g = wide-refused (a .state .now) (a .xf .now) (a .vertex .now) _ h in
+    step-wide (a .ring .now) (stateAt (a .state .now) (a .xf .now) (a .vertex .now)) (a .state .now) (a .unit .now) (a .lacking .now) g
+    (c .refused .ensures)
 
 cp-requires : tie.Need-cp-requires
 cp-requires c κs = search needs
@@ -34,14 +36,11 @@ bp-requires c κs = search needs
 step-requires : tie.Need-step-requires
 step-requires c κs = search needs
 
-step-lacking-requires : tie.Need-step-lacking-requires
-step-lacking-requires c κs = search needs
-
 enum-known-answer : tie.Need-enum-known-answer
 enum-known-answer c = search needs
 
-step-number-requires : tie.Need-step-number-requires
-step-number-requires c κs = search needs
+tell-step-requires : tie.Need-tell-step-requires
+tell-step-requires c κs = search needs
 
 same-length : tie.Need-same-length
 same-length c = search needs
@@ -57,10 +56,11 @@ returns-2 c =
     let f = q .before .before .before in
     let r = f .before .before in
     let a = r .before .before .before .before .before .args in
-    let s = handed (a .state .now) (a .xf .now) (a .vertex .now) (sym (f .front .given .1) ∙ r .read-front .ensures) (q .cp .ensures) (b .bp .ensures) in
+    let h = sym (f .front .given .1) ∙ r .read-front .ensures in
+    let s = handed (a .state .now) (a .xf .now) (a .vertex .now) h (q .cp .ensures) (b .bp .ensures) in
     rw (← s)
-    (step-none (a .ring .now) _ (a .state .now) (a .unit .now) (p .step .ensures) (none _ (c .before .match2 .keys2))
-    (c .step-number .ensures) (c .before .before .step-lacking .ensures))
+    (step-none (a .ring .now) _ (a .state .now) (a .unit .now) (a .lacking .now) (p .step .ensures) (none _ (c .before .before .match2 .keys2))
+    (c .tell-step .ensures))
 
 save-unit-requires : tie.Need-save-unit-requires
 save-unit-requires c κs = search needs
@@ -77,16 +77,17 @@ same-length-4 c = search needs
 returns-3 : tie.Need-returns-3
 returns-3 c =
     let d = c .before .before .before .before .before .before .before in
-    let p = d .before .before .before .before .before .before .before in
+    let p = d .before .before .before .before .before .before in
     let b = p .before .before .before .before .before in
     let q = b .before .before in
     let f = q .before .before .before in
     let r = f .before .before in
     let a = r .before .before .before .before .before .args in
-    let s = handed (a .state .now) (a .xf .now) (a .vertex .now) (sym (f .front .given .1) ∙ r .read-front .ensures) (q .cp .ensures) (b .bp .ensures) in
+    let h = sym (f .front .given .1) ∙ r .read-front .ensures in
+    let s = handed (a .state .now) (a .xf .now) (a .vertex .now) h (q .cp .ensures) (b .bp .ensures) in
     rw (← s)
-    (step-done (a .ring .now) _ (a .state .now) (a .unit .now) _ _ _ (q .cp .ensures) (b .bp .ensures) (p .step .ensures) (d .answer .given .1)
-    (c .before .save-unit .ensures) (c .unit-words .ensures) (d .before .before .step-lacking .ensures))
+    (step-done (a .ring .now) _ (a .state .now) (a .unit .now) (a .lacking .now) _ _ _ (q .cp .ensures) (b .bp .ensures)
+    (p .step .ensures) (d .answer .given .1) (c .before .save-unit .ensures) (c .unit-words .ensures))
 
 pub duckhammock-step-spec : {M : Type 1} → statement M
 duckhammock-step-spec =
@@ -100,9 +101,8 @@ duckhammock-step-spec =
     cp-requires
     bp-requires
     step-requires
-    step-lacking-requires
     enum-known-answer
-    step-number-requires
+    tell-step-requires
     same-length
     same-length-2
     returns-2

@@ -17,7 +17,10 @@ refused-requires : tie.Need-refused-requires
 refused-requires c κs = search needs
 
 returns : tie.Need-returns
-returns c = writes-refused _ _ (c .before .before .before .before .before .before .window .ensures) (c .before .before .before .before .before .write-register .ensures) _ (c .before .before .answer .given .1) (c .refused .ensures)
+returns c =
+    let k = c .before .before .before .before .before in
+    writes-refused _ _ (k .before .window .ensures) (k .write-register .ensures) _ (c .before .before .answer .given .1)
+    (c .refused .ensures)
 
 enum-told : tie.Need-enum-told
 enum-told c = search needs
@@ -27,14 +30,18 @@ save-control-requires c κs = search needs
 
 returns-2 : tie.Need-returns-2
 returns-2 c =
-    writes-control _ _ (c .before .before .before .before .before .before .before .window .ensures) (c .before .before .before .before .before .before .write-register .ensures) (c .save-control .ensures) (c .before .before .before .enum-told .given .1) (c .before .before .if1 .taken)
+    let k = c .before .before .before .before .before .before in
+    writes-control _ _ (k .before .window .ensures) (k .write-register .ensures) (c .save-control .ensures)
+    (c .before .before .before .enum-told .given .1) (c .before .before .if1 .taken)
 
 save-window-requires : tie.Need-save-window-requires
 save-window-requires c κs = search needs
 
 returns-3 : tie.Need-returns-3
 returns-3 c =
-    writes-window _ _ (c .before .before .before .before .before .before .before .window .ensures) (c .before .before .before .before .before .before .write-register .ensures) (c .save-window .ensures) (c .before .before .before .enum-told .given .1) (c .before .before .if1 .left)
+    let k = c .before .before .before .before .before .before in
+    writes-window _ _ (k .before .window .ensures) (k .write-register .ensures) (c .save-window .ensures)
+    (c .before .before .before .enum-told .given .1) (c .before .before .if1 .left)
 
 pub duckhammock-write-register-spec : {M : Type 1} → statement M
 duckhammock-write-register-spec =

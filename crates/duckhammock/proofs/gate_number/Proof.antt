@@ -26,13 +26,19 @@ refused-requires c κs = search needs
 
 returns : tie.Need-returns
 returns c =
+    let a = c .before .before .before .before .before .before .before .args in
     first-number (ap meaningOfGate (sym (c .enum-told .given .1)) ∙ c .before .before .pass .ensures)
-    ∙ (λ i. gateBy (c .before .before .before .before .before .before .before .args .fifo) (c .before .before .before .before .before .before .cp .ensures i) (c .before .before .before .before .before .bp .ensures i) (c .before .before .before .before .before .before .before .args .draw) (c .before .before .before .before .before .before .before .args .ring) (c .before .before .before .before .before .before .before .args .xf) (c .before .before .before .before .before .before .before .args .vertex))
+    ∙ (λ i. gateBy (a .fifo) (c .before .before .before .before .before .before .cp .ensures i)
+    (c .before .before .before .before .before .bp .ensures i) (a .draw) (a .ring) (a .xf) (a .vertex))
 
 returns-2 : tie.Need-returns-2
 returns-2 c =
-    c .refused .ensures ∙ first-number (ap meaningOfGate (sym (c .before .before .gate .given .1)) ∙ c .before .before .before .before .pass .ensures)
-    ∙ (λ i. gateBy (c .before .before .before .before .before .before .before .before .before .args .fifo) (c .before .before .before .before .before .before .before .before .cp .ensures i) (c .before .before .before .before .before .before .before .bp .ensures i) (c .before .before .before .before .before .before .before .before .before .args .draw) (c .before .before .before .before .before .before .before .before .before .args .ring) (c .before .before .before .before .before .before .before .before .before .args .xf) (c .before .before .before .before .before .before .before .before .before .args .vertex))
+    let k = c .before .before .before .before in
+    let a = c .before .before .before .before .before .before .before .before .before .args in
+    c .refused .ensures
+    ∙ first-number (ap meaningOfGate (sym (c .before .before .gate .given .1)) ∙ k .pass .ensures)
+    ∙ (λ i. gateBy (a .fifo) (k .before .before .before .before .cp .ensures i) (k .before .before .before .bp .ensures i) (a .draw)
+    (a .ring) (a .xf) (a .vertex))
 
 pub gate-number-spec : {M : Type 1} → statement M
 gate-number-spec =

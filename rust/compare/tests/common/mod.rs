@@ -26,7 +26,8 @@ faults! {
     WrittenZeroed,
     PatchWrittenZeroed,
     MergedZeroed,
-    LackingLeft,
+    LackingZeroedByRefusal,
+    LackingZeroedByUnit,
     LackingOneMore,
     ReportLeft,
     ReportOneMore,
@@ -184,7 +185,7 @@ impl Side for Faulty {
         if self.is(Fault::XfLongerAccepted) && xf.len() > 4184 {
             xf = &mut xf[..4184];
         }
-        let (was, stale) = (*lacking, [state[8], state[9], state[10]]);
+        let stale = [state[8], state[9], state[10]];
         let mut seen = self.seen(state);
         let answer = Twin.step(&mut seen, ring, xf, vertex, unit, lacking);
         if answer == DONE {
@@ -194,7 +195,8 @@ impl Side for Faulty {
         self.spoil_state(state, stale, answer == DONE);
         match self.0 {
             Fault::UnitZeroed if answer != DONE => *unit = [0; 6],
-            Fault::LackingLeft if answer != WAITING => *lacking = was,
+            Fault::LackingZeroedByRefusal if ![DONE, WAITING].contains(&answer) => *lacking = 0,
+            Fault::LackingZeroedByUnit if answer == DONE => *lacking = 0,
             Fault::LackingOneMore if answer == WAITING => *lacking += 1,
             Fault::VertexRestCleared if answer == DONE && unit[0] == VERTEX => {
                 vertex[unit[5] as usize..].fill(0);

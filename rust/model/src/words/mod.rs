@@ -1,7 +1,8 @@
 //! The calls of `include/duckhammock.h` over the same words and slices, written
-//! from that header and document 01. Each gives the answer's number; a refused
-//! or waiting call leaves what was lent as it was, but for a step's bytes
-//! lacking and a run's report.
+//! from that header and document 01. Each gives the answer's number. A refused
+//! call leaves what was lent as it was, a waiting step all but the bytes lacking;
+//! a run keeps the units before the one that waits or is refused, and its report
+//! is told whatever the answer.
 
 mod command;
 mod state;
@@ -26,11 +27,11 @@ pub const REPORT_WORDS: usize = 2;
 pub const VALUE_WORDS: usize = 10;
 
 pub type StateWords = [u32; STATE_WORDS];
-/// VCD 0 and 1, VAT 0 to 2.
+/// Groups 0 and 1 of the VCD, groups 0 to 2 of one format's VAT.
 pub type FormatWords = [u32; FORMAT_WORDS];
 /// Kind, a, b, c, d.
 pub type CommandWords = [u32; COMMAND_WORDS];
-/// A command's words, and the unit's bytes.
+/// A command's words, and how many bytes the unit has.
 pub type UnitWords = [u32; UNIT_WORDS];
 /// Units done, bytes lacking.
 pub type ReportWords = [u32; REPORT_WORDS];
@@ -105,6 +106,7 @@ pub fn feed(state: &mut StateWords, ring: &mut [u8], bytes: &[u8]) -> u32 {
     number(&answer)
 }
 
+/// "Where it waits, *lacking is how many bytes the unit lacks; else it stays."
 pub fn step(
     state: &mut StateWords,
     ring: &[u8],
@@ -113,7 +115,6 @@ pub fn step(
     unit: &mut UnitWords,
     lacking: &mut u32,
 ) -> u32 {
-    *lacking = 0;
     let Some(mut bench) = state_of(state) else {
         return Refusal::BrokenState.number().into();
     };
@@ -137,7 +138,7 @@ pub fn step(
     }
 }
 
-/// "Where units were done, the state words are those of the state after them."
+/// Where no unit was done, the state words stay.
 pub fn run(
     state: &mut StateWords,
     ring: &[u8],

@@ -25,11 +25,15 @@ attribute-words-requires c κs = search needs
 
 returns : tie.Need-returns
 returns c =
-    rw (sym (c .before .before .before .before .before .descriptor .ensures)) (decode-refused (c .before .before .before .before .decode .ensures) _ _ (c .before .before .decoded .given .1) (c .refused .ensures))
+    let k = c .before .before .before .before in
+    rw (sym (k .before .descriptor .ensures))
+    (decode-refused (k .decode .ensures) _ _ (c .before .before .decoded .given .1) (c .refused .ensures))
 
 returns-2 : tie.Need-returns-2
 returns-2 c =
-    rw (sym (c .before .before .before .before .before .descriptor .ensures)) (decode-done (c .before .before .before .before .decode .ensures) _ _ (c .before .before .decoded2 .given .1) (c .attribute-words .ensures))
+    let k = c .before .before .before .before in
+    rw (sym (k .before .descriptor .ensures))
+    (decode-done (k .decode .ensures) _ _ (c .before .before .decoded2 .given .1) (c .attribute-words .ensures))
 
 pub duckhammock-decode-spec : {M : Type 1} → statement M
 duckhammock-decode-spec =

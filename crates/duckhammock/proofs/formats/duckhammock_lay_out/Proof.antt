@@ -19,14 +19,17 @@ refused-requires c κs = search needs
 
 returns : tie.Need-returns
 returns c =
-    rw (sym (c .before .before .before .before .before .before .before .descriptor .ensures)) (layout-refused (c .before .before .before .before .before .before .lay-out .ensures) _ _ _ _ (c .before .before .answer .given .1) (c .refused .ensures))
+    let k = c .before .before .before .before .before .before in
+    rw (sym (k .before .descriptor .ensures))
+    (layout-refused (k .lay-out .ensures) _ _ _ _ (c .before .before .answer .given .1) (c .refused .ensures))
 
 enum-told : tie.Need-enum-told
 enum-told c = search needs
 
 returns-2 : tie.Need-returns-2
 returns-2 c =
-    rw (sym (c .before .before .before .before .before .descriptor .ensures)) (layout-done (c .before .before .before .before .lay-out .ensures) _ _ _ (c .enum-told .given .1))
+    let k = c .before .before .before .before in
+    rw (sym (k .before .descriptor .ensures)) (layout-done (k .lay-out .ensures) _ _ _ (c .enum-told .given .1))
 
 pub duckhammock-lay-out-spec : {M : Type 1} → statement M
 duckhammock-lay-out-spec =

@@ -25,11 +25,15 @@ raw-list-requires c κs = search needs
 
 returns : tie.Need-returns
 returns c =
-    rw (sym (c .before .before .before .before .before .before .descriptor .ensures)) (raw-refused (c .before .before .before .before .before .raw-words .ensures) _ _ (c .before .before .answer .given .1) (c .refused .ensures))
+    let k = c .before .before .before .before .before in
+    rw (sym (k .before .descriptor .ensures))
+    (raw-refused (k .raw-words .ensures) _ _ (c .before .before .answer .given .1) (c .refused .ensures))
 
 returns-2 : tie.Need-returns-2
 returns-2 c =
-    rw (sym (c .before .before .before .before .before .before .descriptor .ensures)) (raw-done (c .before .before .before .before .before .raw-words .ensures) _ _ (c .before .before .answer2 .given .1) (c .raw-list .ensures))
+    let k = c .before .before .before .before .before in
+    rw (sym (k .before .descriptor .ensures))
+    (raw-done (k .raw-words .ensures) _ _ (c .before .before .answer2 .given .1) (c .raw-list .ensures))
 
 pub duckhammock-raw-words-spec : {M : Type 1} → statement M
 duckhammock-raw-words-spec =

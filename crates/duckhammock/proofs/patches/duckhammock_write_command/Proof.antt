@@ -1,4 +1,4 @@
--- `duckhammock::patches::duckhammock_write_command` meets its contract: it is the command that the words name written, with the number of its answer.
+-- `duckhammock::patches::duckhammock_write_command` meets its contract: it is the command that the words name, with its number.
 use mathlib.Core.Path.{sym}
 use Rattle.duckhammock.proofs.Lending.{puts}
 use borrow.Author.Needs.{needs}
@@ -19,8 +19,9 @@ same-length c = search needs
 
 returns : tie.Need-returns
 returns c =
-    let w = c .before .before .before .before .write .ensures in
-    rw (sym (c .before .before .before .before .before .before .command .ensures)) (puts _ _ _ _ _ (w .answer-is) (w .out-is) (c .tell-bytes .ensures))
+    let k = c .before .before .before .before in
+    let w = k .write .ensures in
+    rw (sym (k .before .before .command .ensures)) (puts _ _ _ _ _ (w .answer-is) (w .out-is) (c .tell-bytes .ensures))
 
 pub duckhammock-write-command-spec : {M : Type 1} → statement M
 duckhammock-write-command-spec =

@@ -1,7 +1,7 @@
 -- `encoding::attributes::descriptor` meets its contract: it reads the words in their places.
 use borrow.Author.Needs.{needs}
 use mathlib.Core.Path.{refl}
-use Rattle.encoding.specs.Told.{descriptorOf}
+use Rattle.encoding.specs.Named.{formatNamed}
 use Rattle.encoding.proofs.attributes.descriptor.Statement.{statement}
 use Rattle.encoding.proofs.attributes.descriptor.Tie as tie
 
@@ -21,7 +21,7 @@ element-copy-out-t16 : tie.Need-element-copy-out-t16
 element-copy-out-t16 c = search needs
 
 returns : tie.Need-returns
-unfolding descriptorOf
+unfolding formatNamed
 returns c = refl
 
 pub descriptor-spec : {M : Type 1} → statement M

@@ -5,7 +5,7 @@ use native.Mathlib.Omega.{arith}
 use lib.ListN.{take, drop}
 use borrow.Author.Needs.{needs}
 use Rattle.processor.proofs.Below.{joins-none, joins-next}
-use Rattle.processor.specs.Gate.{Joins}
+use Rattle.processor.specs.Joined.{Joins}
 use Rattle.processor.proofs.tests.join.Statement.{statement}
 use Rattle.processor.proofs.tests.join.Tie as tie
 

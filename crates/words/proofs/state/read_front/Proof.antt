@@ -29,13 +29,18 @@ element-copy-out-if3 : tie.Need-element-copy-out-if3
 element-copy-out-if3 c = search needs
 
 returns-3 : tie.Need-returns-3
-returns-3 c = wide-primitive _ (c .before .before .before .before .before .before .if1 .left) (c .before .before .before .before .before .window .ensures) (c .before .before .if2 .left) (c .if3 .taken)
+returns-3 c =
+    let w = c .before .before .before .before .before in
+    wide-primitive _ (w .before .if1 .left) (w .window .ensures) (c .before .before .if2 .left) (c .if3 .taken)
 
 element-copy-out-if4 : tie.Need-element-copy-out-if4
 element-copy-out-if4 c = search needs
 
 returns-4 : tie.Need-returns-4
-returns-4 c = wide-format _ (c .before .before .before .before .before .before .before .before .if1 .left) (c .before .before .before .before .before .before .before .window .ensures) (c .before .before .before .before .if2 .left) (c .before .before .if3 .left) (c .if4 .taken)
+returns-4 c =
+    let w = c .before .before .before .before .before .before .before in
+    wide-format _ (w .before .if1 .left) (w .window .ensures) (c .before .before .before .before .if2 .left) (c .before .before .if3 .left)
+    (c .if4 .taken)
 
 element-copy-out-t6-2 : tie.Need-element-copy-out-t6-2
 element-copy-out-t6-2 c = search needs
@@ -59,7 +64,11 @@ left-requires : tie.Need-left-requires
 left-requires c κs = search needs
 
 returns-5 : tie.Need-returns-5
-returns-5 c = held-open _ (c .before .before .before .before .before .before .before .before .before .before .before .before .before .if1 .left) (c .before .before .before .before .before .before .before .before .before .before .before .before .window .ensures) (c .before .before .before .before .before .before .before .before .before .if2 .left) (c .before .before .before .before .before .before .before .if3 .left) (c .before .before .before .before .before .if4 .left) (c .left .ensures)
+returns-5 c =
+    let k = c .before .before .before .before .before in
+    let w = k .before .before .before .before .before .before .before in
+    held-open _ (w .before .if1 .left) (w .window .ensures) (k .before .before .before .before .if2 .left) (k .before .before .if3 .left)
+    (k .if4 .left) (c .left .ensures)
 
 pub read-front-spec : {M : Type 1} → statement M
 read-front-spec =

@@ -21,7 +21,8 @@ returns c =
     let n : length (a .cp .now) ≡ 60 = search needs in
     let m : length (a .bp .now) ≡ 256 = search needs in
     let f = c .before .before .before .before .before .before .save-front .ensures in
-    all-saved (a .fifo) (a .draw) (a .state .now) (f .1) (a .cp .now) (a .bp .now) n m (f .0) (c .before .before .before .store .ensures) (c .store2 .ensures)
+    all-saved (a .fifo) (a .draw) (a .state .now) (f .1) (a .cp .now) (a .bp .now) n m (f .0) (c .before .before .before .store .ensures)
+    (c .store2 .ensures)
 
 pub save-spec : {M : Type 1} → statement M
 save-spec = tie.close (tie.spec save-front-requires store-requires store-requires-2 returns)

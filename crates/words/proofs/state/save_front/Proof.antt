@@ -27,8 +27,12 @@ store-requires-2 c κs = search needs
 returns : tie.Need-returns
 returns c =
     let a = c .before .before .before .before .before .before .before .before .args in
-    let k : length (a .state .now) ≡ 327 = search needs in
-    (front-saved (a .fifo) (a .draw) (a .state .now) k (c .before .before .before .before .before .before .before .fifo-words .ensures) (c .before .before .before .before .before .before .draw-words .ensures) (c .before .before .before .store .ensures) (c .store2 .ensures), k)
+    let k : length (a .state .now) ≡ 327 = search needs in (
+      front-saved (a .fifo) (a .draw) (a .state .now) k (c .before .before .before .before .before .before .before .fifo-words .ensures)
+          (c .before .before .before .before .before .before .draw-words .ensures) (c .before .before .before .store .ensures)
+          (c .store2 .ensures),
+      k,
+    )
 
 pub save-front-spec : {M : Type 1} → statement M
 save-front-spec =

@@ -22,7 +22,8 @@ returns : tie.Need-returns
 returns c =
     let l = c .before .before .before .before .args .state .now in
     let k : length l ≡ 327 = search needs in
-    c .store .ensures ∙ ap (λ (x : List ℕ). put l 0 x) (c .before .before .before .window-words .ensures) ∙ put-window l k (c .before .before .before .before .args .window)
+    c .store .ensures ∙ ap (λ (x : List ℕ). put l 0 x) (c .before .before .before .window-words .ensures) ∙ put-window l k
+    (c .before .before .before .before .args .window)
 
 pub save-window-spec : {M : Type 1} → statement M
 save-window-spec =
