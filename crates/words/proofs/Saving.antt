@@ -124,7 +124,8 @@ module _ (f : Fifo) (draw : Draw) (l : List ℕ) (long : length l ≡ 327) where
 
 -- a command that loads no register of the two
 pub no-load : (c : Command) → OneOf (0 ∷ 1 ∷ 2 ∷ 4 ∷ 5 ∷ 6 ∷ 8 ∷ 9 ∷ []) (tagOf Commands.the-type c)
-    → (l : List ℕ) (f : Fifo) (cp bp : List ℕ) (draw : Draw) → wordsBy f (cpOf l) (bpOf l) draw ≡ wordsAfterUnit l (kindOf (numbersOf c)) f cp bp draw
+    → (l : List ℕ) (f : Fifo) (cp bp : List ℕ) (draw : Draw)
+    → wordsBy f (cpOf l) (bpOf l) draw ≡ wordsAfterUnit l (kindOf (numbersOf c)) f cp bp draw
 unfolding wordsAfterUnit
 no-load NoOperation h l f cp bp draw = refl
 no-load InvalidateCache h l f cp bp draw = refl
