@@ -22,11 +22,11 @@ use Rattle.processor.proofs.StepAnswer as Answers
 use Rattle.processor.specs.declared.StepAnswer.{StepAnswer}
 use Rattle.processor.specs.declared.StepAnswer.the-variants.{Done, Waiting, Refused}
 use Rattle.processor.specs.declared.Stepped.{Stepped}
-use Rattle.processor.specs.declared.Ran.{Ran}
+use Rattle.running.specs.declared.Ran.{Ran}
 use Rattle.processor.specs.State.{State, stateOf}
 use Rattle.processor.specs.Gate.{gateOf}
 use Rattle.processor.specs.Step.{meaning, executed, after, stepFound, stepOf, Steps}
-use Rattle.processor.specs.Run.{Ended, ended, goneOn, steps, gated, runLimit, runOf, meaningOfStop, Reports}
+use Rattle.running.specs.Run.{Ended, ended, goneOn, steps, gated, runLimit, runOf, meaningOfStop, Reports}
 use Rattle.words.specs.declared.state.Front.the-variants.{Held}
 use Rattle.words.specs.State.{cpOf, bpOf, stateAt, wordsBy}
 use Rattle.words.specs.Front.{frontOf, wordsAfterUnit}

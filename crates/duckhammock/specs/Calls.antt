@@ -11,7 +11,7 @@ use Rattle.fifo.specs.Feeding.{feedRefusal, fifoAfter, ringAfter}
 use Rattle.fifo.specs.Registers.{readAnswer, writeAnswer, written}
 use Rattle.processor.specs.State.{State, drawingOf}
 use Rattle.processor.specs.Step.{stepFound, stepOf}
-use Rattle.processor.specs.Run.{Ended}
+use Rattle.running.specs.Run.{Ended}
 use Rattle.words.specs.State.{fifoOf, drawOf, stateWords, fifoStored}
 use Rattle.encoding.specs.Told.{firstOf, secondOf, stepNumber, lackingOf, unitOf}
 

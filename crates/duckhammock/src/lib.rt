@@ -26,7 +26,7 @@ use words::Front;
 ghost use mathlib.Core.Path.{_≡_};
 ghost use Rattle.refusal.specs.Number.{number};
 ghost use Rattle.processor.specs.Gate.{gateBy};
-ghost use Rattle.processor.specs.Run.{runOf};
+ghost use Rattle.running.specs.Run.{runOf};
 ghost use Rattle.words.specs.State.{cpOf, bpOf, stateAt, freshWords};
 ghost use Rattle.duckhammock.specs.Calls.{ReadsRegister, WritesRegister, Feeds, lentOf, Tells, Ends};
 
@@ -203,7 +203,7 @@ pub extern "C" fn duckhammock_run(
     }
     let mut cp = words::cp(state);
     let mut bp = words::bp(state);
-    let ran = processor::run(fifo, &mut cp, &mut bp, draw, ring, xf, vertex, limit);
+    let ran = running::run(fifo, &mut cp, &mut bp, draw, ring, xf, vertex, limit);
     let stop = ran.stop;
     let units = ran.units;
     let told = [units, encoding::stop_lacking(stop)];

@@ -1,11 +1,11 @@
 // The answers of a step and a run as numbers, and the words of a unit.
 use command::Command;
 use processor::StepAnswer;
-use processor::Stop;
+use running::Stop;
 ghost use mathlib.Core.Path.{_≡_};
 ghost use Rattle.command.specs.Command.{unit, numbersOf};
 ghost use Rattle.processor.specs.Step.{meaning};
-ghost use Rattle.processor.specs.Run.{meaningOfStop};
+ghost use Rattle.running.specs.Run.{meaningOfStop};
 ghost use Rattle.encoding.specs.Told.{firstOf, secondOf, indexedKind, unitOf, TellsStep};
 
 // The number of a step's answer, and where it waits the bytes lacking.

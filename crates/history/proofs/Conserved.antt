@@ -19,7 +19,7 @@ use Rattle.fifo.specs.Registers.{wordAt, withRegister, stored, writable, writte
 use Rattle.fifo.proofs.FeedLaws.{pending-after}
 use Rattle.fifo.proofs.Pending.{length-pending}
 use Rattle.processor.specs.Step.{stepFound, stepOf}
-use Rattle.processor.specs.Run.{Taken}
+use Rattle.running.specs.Run.{Taken}
 use Rattle.history.specs.Calls.{World, Call, feed, step, run, write, read, queue, countAt, after, fed}
 use Rattle.history.specs.Calls.{unitsOf, afterAll, fedAll, unitsAll, consumedBy, harmless, Harmless}
 use Rattle.history.specs.Promises.{Conserved}

@@ -25,7 +25,7 @@ use Rattle.processor.specs.State.{State}
 use Rattle.processor.specs.Gate.{gateOf}
 use Rattle.processor.specs.Step.{queueOf, lookAt, executed, stepFound, stepOf}
 use Rattle.processor.specs.Step as S
-use Rattle.processor.specs.Run.{Taken, Ended, goneOn, steps, gated, runLimit, runOf}
+use Rattle.running.specs.Run.{Taken, Ended, goneOn, steps, gated, runLimit, runOf}
 use Rattle.processor.proofs.Passing.{Passes, gate-passes}
 use Rattle.processor.proofs.Bridge.{unit-fits}
 use Rattle.history.specs.Calls.{World, Call, feed, step, run, write, read, queue, after, fed, answered, unitsOf, consumedBy, harmless, Harmless}

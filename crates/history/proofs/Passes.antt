@@ -8,7 +8,7 @@ use Rattle.command.specs.Command.{Found, unit, waiting, refused}
 use Rattle.processor.specs.State.{State}
 use Rattle.processor.specs.Gate.{gateOf}
 use Rattle.processor.specs.Step.{stepFound, stepOf}
-use Rattle.processor.specs.Run.{Ended, goneOn, steps, gated, runLimit, runOf}
+use Rattle.running.specs.Run.{Ended, goneOn, steps, gated, runLimit, runOf}
 use Rattle.processor.proofs.Valid.{step-passes}
 use Rattle.history.specs.Promises.{RunPasses}
 

@@ -12,7 +12,7 @@ use Rattle.fifo.specs.Feeding.{bytesAccepted, fifoAfter, ringAfter}
 use Rattle.fifo.specs.Registers.{writable, written}
 use Rattle.processor.specs.State.{State}
 use Rattle.processor.specs.Step.{queueOf, stepFound, stepOf}
-use Rattle.processor.specs.Run.{Taken, runOf}
+use Rattle.running.specs.Run.{Taken, runOf}
 
 -- what calls are handed and leave: the state and the ring's bytes
 pub record World : Type 0 where

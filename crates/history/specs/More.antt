@@ -6,7 +6,7 @@ use lib.ListN.{length}
 use Rattle.processor.specs.State.{State}
 use Rattle.processor.specs.Gate.{gateOf}
 use Rattle.processor.specs.Step.{queueOf}
-use Rattle.processor.specs.Run.{Ended}
+use Rattle.running.specs.Run.{Ended}
 
 -- the state t, over its ring, is s with more bytes at the end of its queue
 pub record Longer (ring : List ℕ) (s : State) (ring' : List ℕ) (t : State) (more : List ℕ) : Type 0 where

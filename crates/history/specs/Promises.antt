@@ -18,7 +18,7 @@ use Rattle.fifo.specs.Window.{Ready, sizeOf}
 use Rattle.processor.specs.State.{State}
 use Rattle.processor.specs.Gate.{gateOf}
 use Rattle.processor.specs.Step.{stepFound, stepOf}
-use Rattle.processor.specs.Run.{runOf}
+use Rattle.running.specs.Run.{runOf}
 use Rattle.history.specs.Calls.{World, Call, feed, queue, countAt, after, fed, afterAll, fedAll, unitsAll, consumedBy, AllHarmless}
 use Rattle.history.specs.More.{NotWaiting, SameRun}
 

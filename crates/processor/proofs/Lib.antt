@@ -6,9 +6,4 @@ pub mod Bridge
 pub mod Stays
 pub mod Valid
 pub mod Stepping
-pub mod Course
-pub mod Ahead
-pub mod Wholes
-pub mod Follow
-pub mod Runs
 pub mod Meanings

@@ -1,4 +1,4 @@
--- What an answer says determines the answer: of a step, of a run's stop, and of the test of 1 to 5.
+-- What an answer says determines the answer: of a step, and of the test of 1 to 5.
 use mathlib.Core.Path.{_≡_, refl, sym, ap, _∙_}
 use mathlib.Core.List.{List, [], _∷_}
 use Prim.Native.Nat.{ℕ}
@@ -14,12 +14,9 @@ use Rattle.command.specs.Command as C
 use Rattle.command.proofs.Meanings.{meaning-injective}
 use Rattle.processor.specs.declared.StepAnswer.{StepAnswer}
 use Rattle.processor.specs.declared.StepAnswer.the-variants.{Done, Waiting, Refused}
-use Rattle.processor.specs.declared.Stop.{Stop}
-use Rattle.processor.specs.declared.Stop.the-variants as T
 use Rattle.processor.specs.declared.Gate.{Gate}
 use Rattle.processor.specs.declared.Gate.the-variants as G
 use Rattle.processor.specs.Step.{meaning}
-use Rattle.processor.specs.Run.{meaningOfStop}
 use Rattle.processor.specs.Gate.{meaningOfGate}
 
 -- ---- a step's answer is what a look found, under other names
@@ -49,23 +46,9 @@ pub answer-injective : (a b : StepAnswer) → meaning a ≡ meaning b → a ≡ 
 answer-injective a b e =
     sym (back a) ∙ ap answerOf (meaning-injective (foundOf a) (foundOf b) (same a ∙ e ∙ sym (same b))) ∙ back b
 
--- how many numbers a meaning has, and the first of them
-size : {k l : List ℕ} → k ≡ l → length k ≡ length l
-size e = ap length e
-
+-- the first number of a meaning
 first : {k l : List ℕ} → k ≡ l → getD k 0 0 ≡ getD l 0 0
 first e = ap (λ (x : List ℕ). getD x 0 0) e
-
-pub stop-injective : (a b : Stop) → meaningOfStop a ≡ meaningOfStop b → a ≡ b
-stop-injective T.Limit T.Limit e = refl
-stop-injective T.Limit (T.Waiting k) e = let z : _≡_ {A = ℕ} 1 2 = size e in absurd (omega arith)
-stop-injective T.Limit (T.Refused r) e = let z : 0 ≡ number r = first e in absurd (omega (arith, number-some r))
-stop-injective (T.Waiting k) T.Limit e = let z : _≡_ {A = ℕ} 2 1 = size e in absurd (omega arith)
-stop-injective (T.Waiting k) (T.Waiting j) e = ap T.Waiting (ap (λ (x : List ℕ). getD x 1 0) e)
-stop-injective (T.Waiting k) (T.Refused r) e = let z : _≡_ {A = ℕ} 2 1 = size e in absurd (omega arith)
-stop-injective (T.Refused r) T.Limit e = let z : number r ≡ 0 = first e in absurd (omega (arith, number-some r))
-stop-injective (T.Refused r) (T.Waiting k) e = let z : _≡_ {A = ℕ} 1 2 = size e in absurd (omega arith)
-stop-injective (T.Refused r) (T.Refused s) e = ap T.Refused (number-injective r s (first e))
 
 pub gate-injective : (a b : Gate) → meaningOfGate a ≡ meaningOfGate b → a ≡ b
 gate-injective G.Passed G.Passed e = refl

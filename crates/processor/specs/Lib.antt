@@ -3,6 +3,3 @@ pub mod Gate
 pub mod Joined
 pub mod Step
 pub mod Cursor
-pub mod Vertices
-pub mod Loads
-pub mod Run

@@ -1,22 +1,20 @@
-// The processor: the registers that ports share, one unit of the stream, or a run of units (document 01's "bench").
-mod loads;
-mod running;
+// The processor: the registers that ports share, and one unit of the stream (document 01's "bench").
 mod taking;
 mod tests;
-mod vertices;
 
 use command::Command;
 use command::Draw;
 use fifo::Fifo;
 use fifo::Reading;
 use refusal::Reason;
+pub use taking::Moved;
+pub use taking::take_at;
 pub use tests::pass;
 ghost use mathlib.Core.Path.{_≡_};
 ghost use Rattle.fifo.specs.Answers.{meaningOfReading};
 ghost use Rattle.fifo.specs.Registers.{readAnswer};
 ghost use Rattle.processor.specs.State.{stateOf, freshMachine, drawingOf};
 ghost use Rattle.processor.specs.Step.{Steps};
-ghost use Rattle.processor.specs.Run.{runOf, Reports};
 
 // What ports share: the 60 CP registers, the 256 BP registers, and the open draw. A step and a run are lent the registers.
 pub struct Registers {
@@ -55,21 +53,6 @@ pub struct Stepped {
     pub fifo: Fifo,
     pub draw: Draw,
     pub answer: StepAnswer,
-}
-
-// Why a run stopped: "at its limit, at waiting or at a refusal".
-pub enum Stop {
-    Limit,
-    Waiting(u32),
-    Refused(Reason),
-}
-
-// What a run leaves of the fifo and the draw, how many units it took, and why it stopped.
-pub struct Ran {
-    pub fifo: Fifo,
-    pub draw: Draw,
-    pub units: u32,
-    pub stop: Stop,
 }
 
 // "Every BP register of the fresh machine is named": 256 zero words with place FE then set.
@@ -121,7 +104,7 @@ pub fn step(
         (stateOf fifo (now (cp .entry)) (now (bp .entry)) draw (now (xf .entry)) (now (buffer .entry)))
         r (now (cp .exit)) (now (bp .exit)) (now (xf .exit)) (now (buffer .exit)) ⌝ }
 {
-    let gate = tests::pass(fifo, cp, bp, draw, ring.len(), xf.len(), buffer.len());
+    let gate = pass(fifo, cp, bp, draw, ring.len(), xf.len(), buffer.len());
     match gate {
         Gate::Refused(reason) => Stepped {
             fifo,
@@ -129,7 +112,7 @@ pub fn step(
             answer: StepAnswer::Refused(reason),
         },
         Gate::Passed => {
-            let moved = taking::take(fifo::open(fifo), ring, cp, bp, draw, xf, buffer);
+            let moved = take_at(fifo::open(fifo), ring, cp, bp, draw, xf, buffer);
             let draw = moved.draw;
             let answer = moved.answer;
             let cursor = moved.cursor;
@@ -137,45 +120,6 @@ pub fn step(
                 fifo: fifo::close(fifo, cursor),
                 draw,
                 answer,
-            }
-        }
-    }
-}
-
-// A run of units: 1 to 5 once, then steps until the limit, waiting or a refusal. More than 65,535 units count as that.
-pub fn run(
-    fifo: Fifo,
-    cp: &mut [u32; 60],
-    bp: &mut [u32; 256],
-    draw: Draw,
-    ring: &[u8],
-    xf: &mut [u32],
-    buffer: &mut [u8],
-    limit: u32,
-) -> Ran
-    ensures { λ r. ⌜ Reports (runOf (now (ring .entry)) limit
-        (stateOf fifo (now (cp .entry)) (now (bp .entry)) draw (now (xf .entry)) (now (buffer .entry))))
-        r (now (cp .exit)) (now (bp .exit)) (now (xf .exit)) (now (buffer .exit)) ⌝ }
-{
-    let most = running::capped(limit);
-    let gate = tests::pass(fifo, cp, bp, draw, ring.len(), xf.len(), buffer.len());
-    match gate {
-        Gate::Refused(reason) => Ran {
-            fifo,
-            draw,
-            units: 0,
-            stop: Stop::Refused(reason),
-        },
-        Gate::Passed => {
-            let course = running::take_units(fifo, ring, cp, bp, draw, xf, buffer, most);
-            let draw = course.draw;
-            let stop = course.stop;
-            let left = course.fifo;
-            Ran {
-                fifo: left,
-                draw,
-                units: course.units,
-                stop,
             }
         }
     }

@@ -44,8 +44,8 @@ fn execute(
     effect::apply(command, &bytes[..n as usize], cp, bp, xf, buffer);
 }
 
-// Takes one unit, or answers why there is none.
-pub fn take(
+// Takes the unit that the cursor begins with, or answers why there is none. It tests none of 1 to 5.
+pub fn take_at(
     cursor: Cursor,
     ring: &[u8],
     cp: &mut [u32; 60],

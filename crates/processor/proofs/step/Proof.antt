@@ -21,8 +21,8 @@ enum-told c = search needs
 open-requires : tie.Need-open-requires
 open-requires c κs = search needs
 
-take-requires : tie.Need-take-requires
-take-requires c κs = search needs
+take-at-requires : tie.Need-take-at-requires
+take-at-requires c κs = search needs
 
 close-requires : tie.Need-close-requires
 close-requires c κs = search needs
@@ -47,7 +47,7 @@ returns-2 c =
     let s : State = stateOf (a .fifo) (a .cp .now) (a .bp .now) (a .draw) (a .xf .now) (a .buffer .now) in
     let g = passed _ (sym (ap meaningOfGate (told .enum-told .given .1)) ∙ p .pass .ensures) in
     let k = gate-passes s _ g in
-    steps-taken _ s g (takes-opened _ s (k .ready) (o .open .ensures) (t .take .ensures)) (c .close .ensures)
+    steps-taken _ s g (takes-opened _ s (k .ready) (o .open .ensures) (t .take-at .ensures)) (c .close .ensures)
 
 pub step-spec : {M : Type 1} → statement M
 step-spec =
@@ -57,7 +57,7 @@ step-spec =
     enum-known-gate
     enum-told
     open-requires
-    take-requires
+    take-at-requires
     close-requires
     returns
     same-length

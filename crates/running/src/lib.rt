@@ -1,0 +1,65 @@
+// A run of units: steps until the limit, waiting or a refusal.
+mod loads;
+mod units;
+mod vertices;
+
+use command::Draw;
+use fifo::Fifo;
+use processor::Gate;
+use refusal::Reason;
+ghost use Rattle.processor.specs.State.{stateOf};
+ghost use Rattle.running.specs.Run.{runOf, Reports};
+
+// Why a run stopped: "at its limit, at waiting or at a refusal".
+pub enum Stop {
+    Limit,
+    Waiting(u32),
+    Refused(Reason),
+}
+
+// What a run leaves of the fifo and the draw, how many units it took, and why it stopped.
+pub struct Ran {
+    pub fifo: Fifo,
+    pub draw: Draw,
+    pub units: u32,
+    pub stop: Stop,
+}
+
+// A run of units: 1 to 5 once, then steps until the limit, waiting or a refusal. More than 65,535 units count as that.
+pub fn run(
+    fifo: Fifo,
+    cp: &mut [u32; 60],
+    bp: &mut [u32; 256],
+    draw: Draw,
+    ring: &[u8],
+    xf: &mut [u32],
+    buffer: &mut [u8],
+    limit: u32,
+) -> Ran
+    ensures { λ r. ⌜ Reports (runOf (now (ring .entry)) limit
+        (stateOf fifo (now (cp .entry)) (now (bp .entry)) draw (now (xf .entry)) (now (buffer .entry))))
+        r (now (cp .exit)) (now (bp .exit)) (now (xf .exit)) (now (buffer .exit)) ⌝ }
+{
+    let most = units::capped(limit);
+    let gate = processor::pass(fifo, cp, bp, draw, ring.len(), xf.len(), buffer.len());
+    match gate {
+        Gate::Refused(reason) => Ran {
+            fifo,
+            draw,
+            units: 0,
+            stop: Stop::Refused(reason),
+        },
+        Gate::Passed => {
+            let course = units::take_units(fifo, ring, cp, bp, draw, xf, buffer, most);
+            let draw = course.draw;
+            let stop = course.stop;
+            let left = course.fifo;
+            Ran {
+                fifo: left,
+                draw,
+                units: course.units,
+                stop,
+            }
+        }
+    }
+}

@@ -1,0 +1,95 @@
+// The units of a run, taken one after the other.
+use crate::Stop;
+use crate::loads;
+use crate::vertices;
+use command::Draw;
+use fifo::Fifo;
+use processor::StepAnswer;
+ghost use mathlib.Core.Path.{_≡_};
+ghost use Prim.Native.Nat.{min};
+ghost use lib.ListN.{length};
+ghost use Rattle.processor.specs.Gate.{gateBy};
+ghost use Rattle.processor.specs.Step.{meaning};
+ghost use Rattle.processor.specs.State.{stateOf};
+ghost use Rattle.running.specs.Run.{runLimit, stopOf, meaningOfStop, Arrives};
+
+// The most units of a run.
+pub const LIMIT: u32 = 65535;
+
+// What a run leaves of the fifo and the draw, the units that it took, and why it stopped.
+pub struct Course {
+    pub fifo: Fifo,
+    pub draw: Draw,
+    pub units: u32,
+    pub stop: Stop,
+}
+
+// More than the most units counts as that.
+pub fn capped(limit: u32) -> u32
+    ensures { λ r. ⌜ r ≡ min limit runLimit ⌝ }
+{
+    if limit < LIMIT { limit } else { LIMIT }
+}
+
+// Why a run stops at an answer.
+fn stop_for(answer: StepAnswer) -> Stop
+    ensures { λ r. ⌜ meaningOfStop r ≡ stopOf (meaning answer) ⌝ }
+{
+    match answer {
+        StepAnswer::Done { .. } => Stop::Limit,
+        StepAnswer::Waiting(lacking) => Stop::Waiting(lacking),
+        StepAnswer::Refused(reason) => Stop::Refused(reason),
+    }
+}
+
+// Takes units off the queue of a state that has passed 1 to 5:
+// "A run stops at its limit, at waiting or at a refusal, the limit tested first".
+// After each unit the whole vertices of a draw that it leaves open are taken in one move, and the loads that follow in one call.
+pub(crate) fn take_units(
+    fifo: Fifo,
+    ring: &[u8],
+    cp: &mut [u32; 60],
+    bp: &mut [u32; 256],
+    first: Draw,
+    xf: &mut [u32],
+    buffer: &mut [u8],
+    limit: u32,
+) -> Course
+    requires { ⌜ gateBy fifo (now cp) (now bp) first (length (now ring)) (length (now xf)) (length (now buffer)) ≡ 0 ⌝ }
+    ensures { λ r. ⌜ Arrives (now (ring .entry)) limit
+        (stateOf fifo (now (cp .entry)) (now (bp .entry)) first (now (xf .entry)) (now (buffer .entry)))
+        (meaningOfStop (r .stop)) (r .fifo) (now (cp .exit)) (now (bp .exit))
+        (r .draw) (now (xf .exit)) (now (buffer .exit)) (r .units) ⌝ }
+{
+    let mut cursor = fifo::open(fifo);
+    let mut draw = first;
+    let mut units: u32 = 0;
+    while units < limit {
+        let moved = processor::take_at(cursor, ring, cp, bp, draw, xf, buffer);
+        let answer = moved.answer;
+        let StepAnswer::Done { .. } = answer else {
+            return Course {
+                fifo: fifo::close(fifo, cursor),
+                draw,
+                units,
+                stop: stop_for(answer),
+            };
+        };
+        units += 1;
+        let next = moved.cursor;
+        let open = moved.draw;
+        let batch = vertices::take_vertices(next, ring, cp, open, buffer, limit - units);
+        draw = batch.draw;
+        units += batch.units;
+        let after = batch.cursor;
+        let loads = loads::take_loads(after, ring, bp, xf, draw, limit - units);
+        cursor = loads.cursor;
+        units += loads.units;
+    }
+    Course {
+        fifo: fifo::close(fifo, cursor),
+        draw,
+        units,
+        stop: Stop::Limit,
+    }
+}
