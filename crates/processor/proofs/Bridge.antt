@@ -3,8 +3,7 @@ use mathlib.Core.Path.{_≡_, refl, sym, ap, _∙_, subst}
 use mathlib.Core.List.{List}
 use Prim.Native.Nat.{ℕ, _<_, _≤_}
 use native.Mathlib.Omega.{arith}
-use lib.ListN.{length, getD, take}
-use Rattle.laws.specs.Values.{upTo}
+use lib.ListN.{length, getD}
 use Rattle.laws.proofs.Filled.{getD-upTo}
 use Rattle.command.specs.declared.Draw.{Draw}
 use Rattle.command.specs.Command.{Found, unit, waiting, refused}
@@ -14,7 +13,6 @@ use Rattle.command.proofs.Prefix.{look-nine}
 use Rattle.effect.specs.Effect.{xfAfter, vertexAfter}
 use Rattle.fifo.specs.declared.Cursor.{Cursor}
 use Rattle.fifo.specs.Window.{Ready, countOf}
-use Rattle.fifo.specs.Pending.{pending}
 use Rattle.fifo.specs.Cursor.{opened, peeked}
 use Rattle.fifo.proofs.CursorLaws.{reads-pending}
 use Rattle.fifo.proofs.Pending.{length-pending}

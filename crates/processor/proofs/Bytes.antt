@@ -1,10 +1,10 @@
 -- The bytes of a unit: a part of the ring, or a copy.
-use mathlib.Core.Path.{_≡_, sym, ap, _∙_}
+use mathlib.Core.Path.{_≡_, ap, _∙_}
 use mathlib.Core.Bool.{true}
 use mathlib.Core.List.{List, _++_}
 use Prim.Native.Nat.{ℕ, _+_, _-_, _≤_, min}
 use native.Mathlib.Omega.{arith}
-use lib.ListN.{length, take, drop, length-append, length-drop}
+use lib.ListN.{length, take, drop}
 use lib.Seq.{take-at}
 use Rattle.laws.proofs.Filled.{length-upTo}
 use Rattle.fifo.specs.declared.Cursor.{Cursor}
@@ -25,10 +25,3 @@ unfolding copied
 copied-is cursor ring out n h =
     let m : min n (length out) ≡ n = omega arith in
     ap (λ (k : ℕ). take n (bytesAt cursor ring k ++ drop k out)) m ∙ take-at (bytesAt cursor ring n) (drop n out) n (length-upTo (byteOf cursor ring) n)
-
-pub copied-length : (cursor : Cursor) (ring out : List ℕ) (n : ℕ) → length (copied cursor ring out n) ≡ length out
-unfolding copied
-copied-length cursor ring out n =
-    let m : ℕ = min n (length out) in
-    let a : length (bytesAt cursor ring m) ≡ m = length-upTo (byteOf cursor ring) m in
-    length-append (bytesAt cursor ring m) (drop m out) ∙ omega (arith, length-drop m out)

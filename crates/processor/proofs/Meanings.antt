@@ -1,10 +1,9 @@
 -- What an answer says determines the answer: of a step, and of the test of 1 to 5.
 use mathlib.Core.Path.{_≡_, refl, sym, ap, _∙_}
-use mathlib.Core.List.{List, [], _∷_}
+use mathlib.Core.List.{List}
 use Prim.Native.Nat.{ℕ}
 use native.Mathlib.Omega.{arith}
 use lib.ListN.{length, getD}
-use Rattle.refusal.specs.declared.Reason.{Reason}
 use Rattle.refusal.specs.Number.{number}
 use Rattle.refusal.proofs.Injective.{number-injective}
 use Rattle.refusal.proofs.Positive.{number-some}

@@ -1,25 +1,25 @@
 -- Valid states stay valid: a state that passes 1 to 5 passes them after any unit.
-use mathlib.Core.Path.{_≡_, refl, sym, ap, _∙_, subst}
-use mathlib.Core.Bool.{Bool, true, false, cond, _&&_}
+use mathlib.Core.Path.{_≡_, refl, ap, _∙_}
+use mathlib.Core.Bool.{true, _&&_}
 use mathlib.Core.Logic.{⊎-elim}
-use mathlib.Core.List.{List, _++_}
-use Prim.Native.Nat.{ℕ, zero, suc, _+_, _-_, _*_, _/_, _%_, _^_, _<_, _≤_}
+use mathlib.Core.List.{List}
+use Prim.Native.Nat.{ℕ, zero, suc, _+_, _-_, _/_, _%_, _^_, _<_, _≤_}
 use native.Mathlib.Omega.{arith}
 use native.Mathlib.Nat.{lt-of-le-of-lt}
-use lib.Bits.{bitAnd, bitOr, bitXor, and-le-l, or-lt}
-use lib.Dec.{ltb, leb, eqb, lit<, lit≤}
-use lib.ListN.{length, getD, set, take, drop, length-set, length-append, length-drop, length-take}
+use lib.Bits.{bitAnd, bitXor, and-le-l, or-lt}
+use lib.Dec.{ltb, leb, eqb, lit<}
+use lib.ListN.{getD, set, take, drop}
 use lib.Seq.{drop-set-lt, drop-set-add, take-set-lt, take-set-le}
-use borrow.Author.Tests.{lt-ltb, le-ltb, le-leb, ltb-true, ltb-false, eqb-true, leb-true}
+use borrow.Author.Tests.{lt-ltb, le-ltb, le-leb, ltb-true, ltb-false, eqb-true}
 use Rattle.laws.proofs.Cases.{cond-both, order, and-left, and-right}
 use Rattle.command.specs.declared.Draw.{Draw}
 use Rattle.command.specs.declared.Draw.the-variants.{Closed, Open}
-use Rattle.command.specs.Command.{Found, unit, waiting, refused, kindOf, fieldOf}
-use Rattle.command.specs.Places.{cpCount, vatPlace, basePlace, stridePlace, cpPlace}
+use Rattle.command.specs.Command.{kindOf, fieldOf}
+use Rattle.command.specs.Places.{cpCount, vatPlace, cpPlace}
 use Rattle.command.proofs.Ranges.{Ranged}
-use Rattle.effect.specs.Effect.{keptOf, loadedCp, cpAfter, masked, maskPlace, storedBp, loadedBp, bpAfter, storedXf, loadedXf, xfAfter, copied, vertexAfter, openedBy, countedDown, drawAfter}
+use Rattle.effect.specs.Effect.{keptOf, loadedCp, cpAfter, masked, maskPlace, storedBp, loadedBp, bpAfter, openedBy, countedDown, drawAfter}
 use Rattle.processor.specs.Gate.{allBelow, bpFits, basesOf, stridesOf, cpFits, drawFits}
-use Rattle.processor.proofs.Below.{below-at, below-all, below-set}
+use Rattle.processor.proofs.Below.{below-at, below-set}
 
 -- ---- BP registers stay within 24 bits
 pub masked-lt : (old m n : ℕ) → old < 2 ^ 24 → n < 2 ^ 24 → masked old m n < 2 ^ 24

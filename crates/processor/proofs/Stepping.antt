@@ -1,5 +1,5 @@
 -- What `step` promises, for a refusal by 1 to 5 and for a unit.
-use mathlib.Core.Path.{_≡_, refl, sym, ap, _∙_, subst}
+use mathlib.Core.Path.{_≡_, sym, ap, _∙_}
 use mathlib.Core.List.{List, [], _∷_}
 use Prim.Native.Nat.{ℕ}
 use lib.ListN.{length}
@@ -7,7 +7,6 @@ use Rattle.refusal.specs.Number.{number}
 use Rattle.refusal.specs.declared.Reason.{Reason}
 use Rattle.command.specs.declared.Draw.{Draw}
 use Rattle.command.specs.Command.{Found, unit, waiting, refused}
-use Rattle.command.specs.Look.{unlessRefused}
 use Rattle.command.proofs.Refusals.{unless-refused}
 use Rattle.fifo.specs.declared.Cursor.{Cursor}
 use Rattle.fifo.specs.declared.Fifo.{Fifo}

@@ -1,7 +1,7 @@
 -- The course of a run: after some units the whole run is those and the run from here.
-use mathlib.Core.Path.{_≡_, refl, sym, ap, _∙_, subst}
+use mathlib.Core.Path.{_≡_, refl, sym, ap, _∙_}
 use mathlib.Core.List.{List, [], _∷_}
-use Prim.Native.Nat.{ℕ, zero, suc, _+_, _-_, _<_, _≤_}
+use Prim.Native.Nat.{ℕ, suc, _+_, _-_, _<_, _≤_}
 use native.Mathlib.Nat.{add-zero, sub-zero, zero-add}
 use native.Mathlib.Omega.{arith}
 use lib.ListN.{length}
@@ -17,7 +17,7 @@ use Rattle.fifo.proofs.Moves.{consume-none, consume-consume}
 use Rattle.processor.specs.declared.StepAnswer.{StepAnswer}
 use Rattle.processor.specs.State.{State}
 use Rattle.processor.specs.Gate.{gateOf}
-use Rattle.processor.specs.Step.{meaning, lookAt, executed, after, stepFound, stepOf}
+use Rattle.processor.specs.Step.{meaning, lookAt, executed, after, stepOf}
 use Rattle.running.specs.Run.{Taken, Ended, stopOf, goneOn, steps, Arrives}
 use Rattle.processor.proofs.Passing.{Passes, gate-passes, passes-gate}
 use Rattle.processor.proofs.Bridge.{TakesUnit}

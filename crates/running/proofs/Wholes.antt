@@ -23,8 +23,8 @@ use Rattle.fifo.proofs.CursorLaws.{reads-pending}
 use Rattle.fifo.proofs.Moves.{consume-consume, count-consume, ready-consume}
 use Rattle.fifo.proofs.Pending.{length-pending}
 use Rattle.processor.specs.State.{State}
-use Rattle.processor.specs.Step.{queueOf, lookAt, executed}
-use Rattle.running.specs.Vertices.{drawBytes, wholeOf, cursorPast, drawLess, lastCopied, TakesVertices}
+use Rattle.processor.specs.Step.{lookAt, executed}
+use Rattle.running.specs.Vertices.{wholeOf, drawLess, TakesVertices}
 use Rattle.processor.proofs.Passing.{Passes}
 use Rattle.running.proofs.Course.{Course, hereOf}
 use Rattle.running.proofs.Ahead.{Ahead, ahead-none, ahead-next, course-ahead}

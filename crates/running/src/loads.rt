@@ -2,7 +2,6 @@
 // They are that many units taken one after the other (proofs/Follow.antt).
 use command::Draw;
 use fifo::Cursor;
-ghost use mathlib.Core.Path.{_≡_};
 ghost use Rattle.running.specs.Loads.{TakesBp, TakesXf, TakesLoad, TakesLoads, HeadAt};
 
 // The opcodes of the two loads, and the bytes of a BP load.

@@ -1,6 +1,5 @@
 -- `processor::read_register` meets its contract: it is the fifo's read, with the draw as it stands.
 use borrow.Author.Needs.{needs}
-use mathlib.Core.Path.{_∙_}
 use Rattle.processor.proofs.read_register.Statement.{statement}
 use Rattle.processor.proofs.read_register.Tie as tie
 

@@ -1,6 +1,6 @@
 -- `processor::step` meets its contract: past the gate it is one unit of the queue, and the cursor closed is the fifo after it.
 use borrow.Author.Needs.{needs}
-use mathlib.Core.Path.{_≡_, sym, ap, _∙_}
+use mathlib.Core.Path.{sym, ap, _∙_}
 use Rattle.processor.proofs.Stepping.{steps-refused, steps-taken}
 use Rattle.processor.proofs.Bridge.{takes-opened}
 use Rattle.processor.proofs.Passing.{gate-passes, passed}

@@ -1,6 +1,6 @@
 -- `running::run` meets its contract: past the gate it is the steps, and the limit is cut to the most.
 use borrow.Author.Needs.{needs}
-use mathlib.Core.Path.{_≡_, sym, ap, _∙_}
+use mathlib.Core.Path.{sym, ap, _∙_}
 use Rattle.running.proofs.Runs.{run-refused, run-taken}
 use Rattle.processor.proofs.Passing.{passed}
 use Rattle.processor.specs.Gate.{meaningOfGate}

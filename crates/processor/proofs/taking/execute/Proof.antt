@@ -1,20 +1,13 @@
 -- `processor::taking::execute` meets its contract: a part of the ring, or a copy, is the cursor's first bytes.
 use borrow.Author.Needs.{needs}
-use mathlib.Core.Path.{_≡_, sym, ap, _∙_, subst}
-use mathlib.Core.Bool.{_&&_}
-use mathlib.Core.List.{List, _++_}
-use Prim.Native.Nat.{ℕ, _+_, _-_, _≤_, min}
-use native.Mathlib.Omega.{arith}
-use lib.Dec.{leb}
-use lib.ListN.{length, take, drop}
+use mathlib.Core.Path.{_≡_, sym, ap, _∙_}
+use Prim.Native.Nat.{_+_, _-_, _≤_}
+use lib.ListN.{length, take}
 use borrow.Author.Tests.{leb-true}
 use lib.Seq.{length-take-le}
 use lib.ListN.{replicate}
-use Rattle.processor.proofs.Bytes.{lent-is, copied-is, copied-length}
+use Rattle.processor.proofs.Bytes.{lent-is, copied-is}
 use Rattle.processor.specs.Cursor.{bytesAt}
-use Rattle.fifo.specs.Cursor.{straightBy}
-use Rattle.effect.specs.Effect.{Applied}
-use Rattle.command.specs.Command.{numbersOf}
 use Rattle.laws.proofs.Cases.{and-left, and-right}
 use Rattle.processor.proofs.taking.execute.Statement.{statement}
 use Rattle.processor.proofs.taking.execute.Tie as tie

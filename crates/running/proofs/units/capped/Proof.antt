@@ -1,6 +1,5 @@
 -- `running::units::capped` meets its contract: the smaller of the two.
 use native.Mathlib.Omega.{arith}
-use borrow.Author.Needs.{needs}
 use Rattle.running.specs.Run.{runLimit}
 use Rattle.running.proofs.units.capped.Statement.{statement}
 use Rattle.running.proofs.units.capped.Tie as tie

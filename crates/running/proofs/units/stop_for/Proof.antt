@@ -1,6 +1,5 @@
 -- `running::units::stop_for` meets its contract: in each arm the answer is known, and the definition computes.
 use borrow.Author.Needs.{needs}
-use mathlib.Core.Path.{_≡_}
 use Rattle.running.proofs.units.stop_for.Statement.{statement}
 use Rattle.running.proofs.units.stop_for.Tie as tie
 

@@ -1,5 +1,5 @@
 -- The number taken is the definition's; the last of n vertices stands n - 1 vertices on, and the cursor skips all n.
-use Prim.Native.Nat.{ℕ, _-_, _≤_}
+use Prim.Native.Nat.{_-_, _≤_}
 use native.Mathlib.Nat.{lt-of-le-of-lt, mul-le-mul-right}
 use native.Mathlib.Omega.{arith}
 use borrow.Author.Needs.{needs}

@@ -1,6 +1,6 @@
 -- As many as the pending bytes have, or as are allowed; no bytes divide into none. So many vertices are pending, and their bytes fit a word.
 use mathlib.Core.Path.{_≡_, ap, _∙_}
-use Prim.Native.Nat.{ℕ, _/_, min}
+use Prim.Native.Nat.{ℕ, _/_}
 use native.Mathlib.Nat.{div-zero}
 use native.Mathlib.Omega.{arith}
 use borrow.Author.Needs.{needs}
