@@ -2,8 +2,3 @@ pub mod WindowLaws
 pub mod RegisterLaws
 pub mod ReadBack
 pub mod Meaning
-pub mod Moves
-pub mod Pending
-pub mod Stretches
-pub mod FeedLaws
-pub mod CursorLaws

@@ -1,4 +1,4 @@
--- Laws of the window's rules, of the count, and of the pointers that move.
+-- Laws of the window's rules and of the count.
 use Prim.Native.Nat.{ℕ, _+_, _-_, _<_}
 use mathlib.Core.Path.{_≡_}
 use mathlib.Core.Logic.{_⊎_, inl, inr, ⊎-elim}

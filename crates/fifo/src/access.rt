@@ -109,7 +109,7 @@ fn status(window: Window, drawing: bool) -> u16
 }
 
 // The fifo with another window.
-pub(crate) fn with_window(fifo: Fifo, window: Window) -> Fifo
+pub fn with_window(fifo: Fifo, window: Window) -> Fifo
     ensures { λ r. ⌜ r ≡ withWindow fifo window ⌝ }
 {
     let mut r = fifo;

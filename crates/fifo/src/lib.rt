@@ -1,21 +1,14 @@
-// What one port owns of the command stream: the ring window, its hardware registers, counting and feeding, and a cursor that reads what
-// is pending.
+// What one port owns of the command stream: the ring window, its rules and its count, and the hardware registers.
 mod access;
-mod feeding;
-mod queue;
 mod rules;
 
 pub use access::read_register;
+pub use access::with_window;
 pub use access::write_register;
-pub use feeding::feed;
-pub use queue::close;
-pub use queue::copy;
-pub use queue::open;
-pub use queue::peek;
-pub use queue::skip;
-pub use queue::straight;
 use refusal::Reason;
 pub use rules::count;
+pub use rules::gap;
+pub use rules::minus;
 pub use rules::ready;
 pub use rules::valid;
 ghost use mathlib.Core.Path.{_≡_};
@@ -62,13 +55,6 @@ pub enum Answer {
 pub struct Changed {
     pub fifo: Fifo,
     pub answer: Answer,
-}
-
-// Where the pending bytes stand in the ring: the place of the first, how many are left, and the ring's size.
-pub struct Cursor {
-    pub at: u32,
-    pub left: u32,
-    pub size: u32,
 }
 
 // "Fresh state: control 0010 (hex), .. every other register zero".

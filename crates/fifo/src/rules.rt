@@ -10,7 +10,7 @@ ghost use Rattle.fifo.specs.Window.{validBy, readyBy, gapOf};
 ghost use Rattle.fifo.specs.Answers.{meaningOfCount, countAnswer};
 
 // a less b, and 0 where b is more.
-pub(crate) fn minus(a: u32, b: u32) -> u32
+pub fn minus(a: u32, b: u32) -> u32
     ensures { λ r. ⌜ r ≡ a - b ⌝ }
 {
     if b < a { a - b } else { 0 }
@@ -45,7 +45,7 @@ pub fn ready(fifo: Fifo, len: usize) -> bool
 }
 
 // The bytes from the read pointer round to the write pointer: the count, where the window obeys its rules.
-pub(crate) fn gap(window: Window) -> u32
+pub fn gap(window: Window) -> u32
     ensures { λ r. ⌜ r ≡ gapOf window ⌝ }
 {
     let write = window.write;

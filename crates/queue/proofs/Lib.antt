@@ -1,0 +1,5 @@
+pub mod Moves
+pub mod Pending
+pub mod Stretches
+pub mod FeedLaws
+pub mod CursorLaws
