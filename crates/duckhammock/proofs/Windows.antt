@@ -20,7 +20,7 @@ use Rattle.fifo.specs.declared.Reading.{Reading}
 use Rattle.fifo.specs.declared.Reading.the-variants as reading
 use Rattle.fifo.specs.declared.Answer.the-variants as answer
 use Rattle.fifo.specs.Answers.{meaningOf, meaningOfReading, ChangedBy}
-use Rattle.fifo.specs.Feeding.{feedRefusal, accepted, fifoAfter, ringAfter, FedBy}
+use Rattle.queue.specs.Feeding.{feedRefusal, accepted, fifoAfter, ringAfter, FedBy}
 use Rattle.fifo.specs.Window.{readyBy, accept, withWindow, withControl, withWrite}
 use Rattle.fifo.specs.Registers.{listed, computed, readable, writable, valueOf, readAnswer, withRegister, stored, written, writeAnswer}
 use Rattle.processor.specs.State.{drawingOf}

@@ -7,7 +7,7 @@ use mathlib.Core.List.{List, [], _∷_}
 use Prim.Native.Nat.{ℕ}
 use lib.Dec.{eqb}
 use lib.ListN.{length}
-use Rattle.fifo.specs.Feeding.{feedRefusal, fifoAfter, ringAfter}
+use Rattle.queue.specs.Feeding.{feedRefusal, fifoAfter, ringAfter}
 use Rattle.fifo.specs.Registers.{readAnswer, writeAnswer, written}
 use Rattle.processor.specs.State.{State, drawingOf}
 use Rattle.processor.specs.Step.{stepFound, stepOf}

@@ -109,7 +109,7 @@ pub extern "C" fn duckhammock_feed(state: &mut [u32; 327], ring: &mut [u8], byte
         window: words::window(state),
         control: 0,
     };
-    let changed = fifo::feed(fifo, ring, bytes);
+    let changed = queue::feed(fifo, ring, bytes);
     let answer = changed.answer;
     let after = changed.fifo;
     if let Answer::Refused(reason) = answer {

@@ -6,7 +6,7 @@ use lib.ListN.{length, take, drop}
 use Rattle.laws.proofs.Cases.{cond-both}
 use Rattle.octets.proofs.Number.{Octets}
 use Rattle.fifo.specs.declared.Fifo.{Fifo}
-use Rattle.fifo.specs.Feeding.{put, putRound, fed, accepted, ringAfter}
+use Rattle.queue.specs.Feeding.{put, putRound, fed, accepted, ringAfter}
 
 append-octets : (a b : List ℕ) → Octets a → Octets b → Octets (a ++ b)
 append-octets [] b ha hb k = hb k

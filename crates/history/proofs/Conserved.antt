@@ -14,10 +14,10 @@ use Rattle.laws.proofs.Cases.{cond-both, order, and-left, and-right}
 use Rattle.fifo.specs.declared.Fifo.{Fifo}
 use Rattle.fifo.specs.declared.Window.{Window}
 use Rattle.fifo.specs.Window.{countOf}
-use Rattle.fifo.specs.Pending.{pending}
+use Rattle.queue.specs.Pending.{pending}
 use Rattle.fifo.specs.Registers.{wordAt, withRegister, stored, writable, written}
-use Rattle.fifo.proofs.FeedLaws.{pending-after}
-use Rattle.fifo.proofs.Pending.{length-pending}
+use Rattle.queue.proofs.FeedLaws.{pending-after}
+use Rattle.queue.proofs.Pending.{length-pending}
 use Rattle.processor.specs.Step.{stepFound, stepOf}
 use Rattle.running.specs.Run.{Taken}
 use Rattle.history.specs.Calls.{World, Call, feed, step, run, write, read, queue, countAt, after, fed}

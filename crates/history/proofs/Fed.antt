@@ -20,10 +20,10 @@ use Rattle.writer.proofs.Back.{looks-back}
 use Rattle.writer.proofs.Loads.{loads-back}
 use Rattle.fifo.specs.declared.Fifo.{Fifo}
 use Rattle.fifo.specs.Window.{readyBy, countOf}
-use Rattle.fifo.specs.Feeding.{accepted, bytesAccepted, fifoAfter, ringAfter}
+use Rattle.queue.specs.Feeding.{accepted, bytesAccepted, fifoAfter, ringAfter}
 use Rattle.fifo.proofs.WindowLaws.{true-ready}
-use Rattle.fifo.proofs.FeedLaws.{Fits, accepted-fits, pending-after, ready-after}
-use Rattle.fifo.proofs.Pending.{length-pending}
+use Rattle.queue.proofs.FeedLaws.{Fits, accepted-fits, pending-after, ready-after}
+use Rattle.queue.proofs.Pending.{length-pending}
 use Rattle.fifo.specs.Window.{accept}
 use Rattle.processor.specs.State.{State}
 use Rattle.processor.specs.Gate.{stateFits, gateBy, gateOf}

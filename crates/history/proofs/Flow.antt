@@ -16,11 +16,11 @@ use Rattle.command.specs.Look.{unlessRefused}
 use Rattle.fifo.specs.declared.Fifo.{Fifo}
 use Rattle.fifo.specs.declared.Window.{Window}
 use Rattle.fifo.specs.Window.{consume, countOf}
-use Rattle.fifo.specs.Pending.{pending}
+use Rattle.queue.specs.Pending.{pending}
 use Rattle.fifo.specs.Registers.{words, wordAt, withHalf, isHigh, withRegister, stored, writable, written}
-use Rattle.fifo.proofs.CursorLaws.{reads-pending}
-use Rattle.fifo.proofs.FeedLaws.{pending-after}
-use Rattle.fifo.proofs.Pending.{length-pending}
+use Rattle.queue.proofs.CursorLaws.{reads-pending}
+use Rattle.queue.proofs.FeedLaws.{pending-after}
+use Rattle.queue.proofs.Pending.{length-pending}
 use Rattle.processor.specs.State.{State}
 use Rattle.processor.specs.Gate.{gateOf}
 use Rattle.processor.specs.Step.{queueOf, lookAt, executed, stepFound, stepOf}

@@ -16,8 +16,8 @@ use Rattle.command.proofs.Extends.{Settled}
 use Rattle.command.proofs.Prefix.{look-prefix}
 use Rattle.effect.specs.Effect.{cpAfter, bpAfter, xfAfter, vertexAfter, drawAfter}
 use Rattle.fifo.specs.Window.{consume, countOf}
-use Rattle.fifo.proofs.CursorLaws.{reads-pending}
-use Rattle.fifo.proofs.Pending.{length-pending}
+use Rattle.queue.proofs.CursorLaws.{reads-pending}
+use Rattle.queue.proofs.Pending.{length-pending}
 use Rattle.processor.specs.State.{State}
 use Rattle.processor.specs.Gate.{gateOf}
 use Rattle.processor.specs.Step.{queueOf, lookAt, executed, stepFound, stepOf}

@@ -8,7 +8,7 @@ use lib.Dec.{leb, eqb}
 use Rattle.command.specs.Command.{Found, unit, waiting, refused}
 use Rattle.fifo.specs.declared.Fifo.{Fifo}
 use Rattle.fifo.specs.Window.{countOf}
-use Rattle.fifo.specs.Feeding.{bytesAccepted, fifoAfter, ringAfter}
+use Rattle.queue.specs.Feeding.{bytesAccepted, fifoAfter, ringAfter}
 use Rattle.fifo.specs.Registers.{writable, written}
 use Rattle.processor.specs.State.{State}
 use Rattle.processor.specs.Step.{queueOf, stepFound, stepOf}

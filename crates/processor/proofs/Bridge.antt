@@ -11,11 +11,11 @@ use Rattle.command.specs.Look.{lookOf}
 use Rattle.command.proofs.Bounds.{Fair, look-fair}
 use Rattle.command.proofs.Prefix.{look-nine}
 use Rattle.effect.specs.Effect.{xfAfter, vertexAfter}
-use Rattle.fifo.specs.declared.Cursor.{Cursor}
+use Rattle.queue.specs.declared.Cursor.{Cursor}
 use Rattle.fifo.specs.Window.{Ready, countOf}
-use Rattle.fifo.specs.Cursor.{opened, peeked}
-use Rattle.fifo.proofs.CursorLaws.{reads-pending}
-use Rattle.fifo.proofs.Pending.{length-pending}
+use Rattle.queue.specs.Cursor.{opened, peeked}
+use Rattle.queue.proofs.CursorLaws.{reads-pending}
+use Rattle.queue.proofs.Pending.{length-pending}
 use Rattle.processor.specs.declared.StepAnswer.{StepAnswer}
 use Rattle.processor.specs.State.{State}
 use Rattle.processor.specs.Step.{meaning, queueOf, lookAt, executed, after}

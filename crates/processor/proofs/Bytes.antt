@@ -7,9 +7,9 @@ use native.Mathlib.Omega.{arith}
 use lib.ListN.{length, take, drop}
 use lib.Seq.{take-at}
 use Rattle.laws.proofs.Filled.{length-upTo}
-use Rattle.fifo.specs.declared.Cursor.{Cursor}
-use Rattle.fifo.specs.Cursor.{byteOf, copied, straightBy}
-use Rattle.fifo.proofs.CursorLaws.{straight-true, straight-bytes}
+use Rattle.queue.specs.declared.Cursor.{Cursor}
+use Rattle.queue.specs.Cursor.{byteOf, copied, straightBy}
+use Rattle.queue.proofs.CursorLaws.{straight-true, straight-bytes}
 use Rattle.processor.specs.Cursor.{bytesAt}
 
 -- a straight part of the ring

@@ -10,8 +10,8 @@ use Rattle.command.specs.Command.{Found, unit, waiting, refused, numbersOf}
 use Rattle.command.specs.Look.{lookOf}
 use Rattle.command.proofs.Bounds.{Fair, look-fair}
 use Rattle.effect.specs.Effect.{drawAfter, Applied}
-use Rattle.fifo.specs.declared.Cursor.{Cursor}
-use Rattle.fifo.specs.Cursor.{skipped}
+use Rattle.queue.specs.declared.Cursor.{Cursor}
+use Rattle.queue.specs.Cursor.{skipped}
 use Rattle.processor.specs.declared.StepAnswer.the-variants.{Done, Waiting, Refused}
 use Rattle.processor.specs.Cursor.{bytesAt, Takes}
 

@@ -8,12 +8,12 @@ use Rattle.refusal.specs.declared.Reason.{Reason}
 use Rattle.command.specs.declared.Draw.{Draw}
 use Rattle.command.specs.Command.{Found, unit, waiting, refused}
 use Rattle.command.proofs.Refusals.{unless-refused}
-use Rattle.fifo.specs.declared.Cursor.{Cursor}
+use Rattle.queue.specs.declared.Cursor.{Cursor}
 use Rattle.fifo.specs.declared.Fifo.{Fifo}
 use Rattle.fifo.specs.Window.{Ready, consume}
-use Rattle.fifo.specs.Cursor.{opened, closed}
-use Rattle.fifo.proofs.CursorLaws.{reads-pending}
-use Rattle.fifo.proofs.Moves.{consume-none}
+use Rattle.queue.specs.Cursor.{opened, closed}
+use Rattle.queue.proofs.CursorLaws.{reads-pending}
+use Rattle.queue.proofs.Moves.{consume-none}
 use Rattle.processor.specs.declared.StepAnswer.{StepAnswer}
 use Rattle.processor.specs.declared.StepAnswer.the-variants.{Refused}
 use Rattle.processor.specs.State.{State, stateOf}

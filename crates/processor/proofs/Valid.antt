@@ -10,8 +10,8 @@ use Rattle.command.specs.Look.{unlessRefused}
 use Rattle.command.proofs.Ranges.{Ranged, Ranges, look-ranges}
 use Rattle.effect.proofs.Lengths.{length-xf, length-buffer}
 use Rattle.fifo.specs.Window.{consume}
-use Rattle.fifo.proofs.Moves.{ready-consume}
-use Rattle.fifo.proofs.Pending.{pending-each}
+use Rattle.queue.proofs.Moves.{ready-consume}
+use Rattle.queue.proofs.Pending.{pending-each}
 use Rattle.processor.specs.State.{State}
 use Rattle.processor.specs.Gate.{gateOf}
 use Rattle.processor.specs.Step.{queueOf, lookAt, executed, after, stepFound, stepOf}

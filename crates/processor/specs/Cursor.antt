@@ -7,8 +7,8 @@ use Rattle.command.specs.declared.Draw.{Draw}
 use Rattle.command.specs.Command.{Found, unit, waiting, refused}
 use Rattle.command.specs.Look.{lookOf}
 use Rattle.effect.specs.Effect.{cpAfter, bpAfter, xfAfter, vertexAfter, drawAfter}
-use Rattle.fifo.specs.declared.Cursor.{Cursor}
-use Rattle.fifo.specs.Cursor.{byteOf, peeked, skipped}
+use Rattle.queue.specs.declared.Cursor.{Cursor}
+use Rattle.queue.specs.Cursor.{byteOf, peeked, skipped}
 use Rattle.processor.specs.declared.StepAnswer.{StepAnswer}
 use Rattle.processor.specs.Step.{meaning}
 

@@ -8,7 +8,7 @@ use Rattle.command.specs.Command.{Found, unit, waiting, refused, numbersOf}
 use Rattle.command.specs.Look.{unlessRefused, lookOf}
 use Rattle.effect.specs.Effect.{cpAfter, bpAfter, xfAfter, vertexAfter, drawAfter}
 use Rattle.fifo.specs.Window.{consume}
-use Rattle.fifo.specs.Pending.{pending}
+use Rattle.queue.specs.Pending.{pending}
 use Rattle.processor.specs.declared.StepAnswer.{StepAnswer}
 use Rattle.processor.specs.declared.StepAnswer.the-variants.{Done, Waiting, Refused}
 use Rattle.processor.specs.declared.Stepped.{Stepped}

@@ -112,12 +112,12 @@ pub fn step(
             answer: StepAnswer::Refused(reason),
         },
         Gate::Passed => {
-            let moved = take_at(fifo::open(fifo), ring, cp, bp, draw, xf, buffer);
+            let moved = take_at(queue::open(fifo), ring, cp, bp, draw, xf, buffer);
             let draw = moved.draw;
             let answer = moved.answer;
             let cursor = moved.cursor;
             Stepped {
-                fifo: fifo::close(fifo, cursor),
+                fifo: queue::close(fifo, cursor),
                 draw,
                 answer,
             }

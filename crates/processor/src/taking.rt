@@ -3,7 +3,7 @@ use crate::StepAnswer;
 use command::Command;
 use command::Draw;
 use command::Next;
-use fifo::Cursor;
+use queue::Cursor;
 ghost use Prim.Native.Nat.{_≤_};
 ghost use Rattle.command.specs.Command.{numbersOf};
 ghost use Rattle.effect.specs.Effect.{Applied};
@@ -35,12 +35,12 @@ fn execute(
 {
     let at = cursor.at as usize;
     let end = at + n as usize;
-    if fifo::straight(cursor, n) & (end <= ring.len()) {
+    if queue::straight(cursor, n) & (end <= ring.len()) {
         effect::apply(command, &ring[at..end], cp, bp, xf, buffer);
         return;
     }
     let mut bytes = [0u8; 129];
-    fifo::copy(cursor, ring, &mut bytes, n);
+    queue::copy(cursor, ring, &mut bytes, n);
     effect::apply(command, &bytes[..n as usize], cp, bp, xf, buffer);
 }
 
@@ -58,7 +58,7 @@ pub fn take_at(
         cursor (now (ring .entry)) (now (cp .entry)) (now (bp .entry)) draw (now (xf .entry)) (now (buffer .entry))
         (r .answer) (r .cursor) (r .draw) (now (cp .exit)) (now (bp .exit)) (now (xf .exit)) (now (buffer .exit)) ⌝ }
 {
-    let bytes = fifo::peek(cursor, ring);
+    let bytes = queue::peek(cursor, ring);
     let next = command::look(bytes, cursor.left, cp, draw);
     match next {
         Next::Unit {
@@ -68,7 +68,7 @@ pub fn take_at(
         } => {
             execute(command, cursor, ring, length, cp, bp, xf, buffer);
             Moved {
-                cursor: fifo::skip(cursor, length),
+                cursor: queue::skip(cursor, length),
                 draw: effect::next_draw(command, draw),
                 answer: StepAnswer::Done {
                     command,

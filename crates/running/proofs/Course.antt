@@ -8,12 +8,12 @@ use lib.ListN.{length}
 use Rattle.octets.proofs.Number.{Octets}
 use Rattle.command.specs.declared.Draw.{Draw}
 use Rattle.command.specs.Command.{Found, unit, waiting, refused}
-use Rattle.fifo.specs.declared.Cursor.{Cursor}
+use Rattle.queue.specs.declared.Cursor.{Cursor}
 use Rattle.fifo.specs.declared.Fifo.{Fifo}
 use Rattle.fifo.specs.Window.{consume}
-use Rattle.fifo.specs.Cursor.{opened, closed}
-use Rattle.fifo.proofs.CursorLaws.{reads-pending}
-use Rattle.fifo.proofs.Moves.{consume-none, consume-consume}
+use Rattle.queue.specs.Cursor.{opened, closed}
+use Rattle.queue.proofs.CursorLaws.{reads-pending}
+use Rattle.queue.proofs.Moves.{consume-none, consume-consume}
 use Rattle.processor.specs.declared.StepAnswer.{StepAnswer}
 use Rattle.processor.specs.State.{State}
 use Rattle.processor.specs.Gate.{gateOf}

@@ -16,9 +16,9 @@ use Rattle.command.specs.Command.{unit, loadBp, loadXf, numbersOf}
 use Rattle.command.proofs.Decided.{looks-bp, looks-xf}
 use Rattle.command.specs.Look.{xfCount, xfWords, xfAddress}
 use Rattle.effect.specs.Effect.{cpAfter, bpAfter, xfAfter, vertexAfter, drawAfter, loadedBp, loadedXf, Applied}
-use Rattle.fifo.specs.declared.Cursor.{Cursor}
-use Rattle.fifo.specs.Cursor.{byteOf, peeked, skipped, straightBy}
-use Rattle.fifo.proofs.CursorLaws.{straight-true, straight-byte}
+use Rattle.queue.specs.declared.Cursor.{Cursor}
+use Rattle.queue.specs.Cursor.{byteOf, peeked, skipped, straightBy}
+use Rattle.queue.proofs.CursorLaws.{straight-true, straight-byte}
 use Rattle.processor.specs.declared.StepAnswer.the-variants.{Done}
 use Rattle.processor.specs.State.{State}
 use Rattle.processor.specs.Cursor.{seen, bytesAt, Takes}

@@ -15,13 +15,13 @@ use Rattle.command.specs.Look.{vertexBytes}
 use Rattle.command.proofs.Decided.{bytes-most, looks-vertex}
 use Rattle.effect.specs.Effect as E
 use Rattle.fifo.specs.declared.Fifo.{Fifo}
-use Rattle.fifo.specs.declared.Cursor.{Cursor}
+use Rattle.queue.specs.declared.Cursor.{Cursor}
 use Rattle.fifo.specs.Window.{Ready, consume, countOf}
-use Rattle.fifo.specs.Pending.{pending}
-use Rattle.fifo.specs.Cursor.{opened, skipped, copied}
-use Rattle.fifo.proofs.CursorLaws.{reads-pending}
-use Rattle.fifo.proofs.Moves.{consume-consume, count-consume, ready-consume}
-use Rattle.fifo.proofs.Pending.{length-pending}
+use Rattle.queue.specs.Pending.{pending}
+use Rattle.queue.specs.Cursor.{opened, skipped, copied}
+use Rattle.queue.proofs.CursorLaws.{reads-pending}
+use Rattle.queue.proofs.Moves.{consume-consume, count-consume, ready-consume}
+use Rattle.queue.proofs.Pending.{length-pending}
 use Rattle.processor.specs.State.{State}
 use Rattle.processor.specs.Step.{lookAt, executed}
 use Rattle.running.specs.Vertices.{wholeOf, drawLess, TakesVertices}

@@ -8,8 +8,8 @@ use Rattle.command.specs.declared.Draw.{Draw}
 use Rattle.command.specs.declared.Draw.the-variants.{Closed}
 use Rattle.command.specs.Command.{unit, numbersOf, loadXf}
 use Rattle.effect.specs.Effect.{drawAfter, Applied}
-use Rattle.fifo.specs.declared.Cursor.{Cursor}
-use Rattle.fifo.specs.Cursor.{skipped}
+use Rattle.queue.specs.declared.Cursor.{Cursor}
+use Rattle.queue.specs.Cursor.{skipped}
 use Rattle.processor.specs.Cursor.{seen, bytesAt}
 
 -- a load of so many bytes that the cursor begins with while no draw is open, and what it leaves of the BP registers and the XF words;

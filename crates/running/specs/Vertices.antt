@@ -7,8 +7,8 @@ use Rattle.command.specs.declared.Draw.{Draw}
 use Rattle.command.specs.declared.Draw.the-variants.{Closed, Open}
 use Rattle.command.specs.Look.{vertexBytes}
 use Rattle.effect.specs.Effect.{openedBy}
-use Rattle.fifo.specs.declared.Cursor.{Cursor}
-use Rattle.fifo.specs.Cursor.{skipped, copied}
+use Rattle.queue.specs.declared.Cursor.{Cursor}
+use Rattle.queue.specs.Cursor.{skipped, copied}
 
 -- the bytes of a vertex of the draw
 abbrev pub drawBytes : List ℕ → Draw → ℕ

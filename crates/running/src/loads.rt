@@ -1,7 +1,7 @@
 // BP and XF loads that follow each other, taken in one call: only those whose bytes lie straight in the ring.
 // They are that many units taken one after the other (proofs/Follow.antt).
 use command::Draw;
-use fifo::Cursor;
+use queue::Cursor;
 ghost use Rattle.running.specs.Loads.{TakesBp, TakesXf, TakesLoad, TakesLoads, HeadAt};
 
 // The opcodes of the two loads, and the bytes of a BP load.
@@ -21,7 +21,7 @@ pub struct Loads {
 fn take_bp(cursor: Cursor, ring: &[u8], bp: &mut [u32; 256]) -> bool
     ensures { λ r. ⌜ TakesBp cursor (now (ring .entry)) (now (bp .entry)) r (now (bp .exit)) ⌝ }
 {
-    if !fifo::straight(cursor, BP_BYTES) {
+    if !queue::straight(cursor, BP_BYTES) {
         return false;
     }
     let at = cursor.at as usize;
@@ -42,7 +42,7 @@ fn take_words(cursor: Cursor, ring: &[u8], xf: &mut [u32], words: u16, address: 
     ensures { λ r. ⌜ TakesXf cursor (now (ring .entry)) (now (xf .entry)) r (now (xf .exit)) ⌝ }
 {
     let bytes = 5 + 4 * words as u32;
-    if !fifo::straight(cursor, bytes) {
+    if !queue::straight(cursor, bytes) {
         return 0;
     }
     let at = cursor.at as usize;
@@ -58,7 +58,7 @@ fn take_words(cursor: Cursor, ring: &[u8], xf: &mut [u32], words: u16, address: 
 fn take_xf(cursor: Cursor, ring: &[u8], xf: &mut [u32]) -> u32
     ensures { λ r. ⌜ TakesXf cursor (now (ring .entry)) (now (xf .entry)) r (now (xf .exit)) ⌝ }
 {
-    if !fifo::straight(cursor, 5) {
+    if !queue::straight(cursor, 5) {
         return 0;
     }
     let at = cursor.at as usize;
@@ -108,7 +108,7 @@ pub(crate) fn take_loads(
         if bytes == 0 {
             return Loads { cursor: at, units };
         }
-        at = fifo::skip(at, bytes);
+        at = queue::skip(at, bytes);
         units += 1;
     }
     Loads { cursor: at, units }

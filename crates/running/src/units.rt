@@ -61,7 +61,7 @@ pub(crate) fn take_units(
         (meaningOfStop (r .stop)) (r .fifo) (now (cp .exit)) (now (bp .exit))
         (r .draw) (now (xf .exit)) (now (buffer .exit)) (r .units) ⌝ }
 {
-    let mut cursor = fifo::open(fifo);
+    let mut cursor = queue::open(fifo);
     let mut draw = first;
     let mut units: u32 = 0;
     while units < limit {
@@ -69,7 +69,7 @@ pub(crate) fn take_units(
         let answer = moved.answer;
         let StepAnswer::Done { .. } = answer else {
             return Course {
-                fifo: fifo::close(fifo, cursor),
+                fifo: queue::close(fifo, cursor),
                 draw,
                 units,
                 stop: stop_for(answer),
@@ -87,7 +87,7 @@ pub(crate) fn take_units(
         units += loads.units;
     }
     Course {
-        fifo: fifo::close(fifo, cursor),
+        fifo: queue::close(fifo, cursor),
         draw,
         units,
         stop: Stop::Limit,

@@ -2,7 +2,7 @@
 // before it.
 // It is that many units taken one after the other (proofs/Wholes.antt).
 use command::Draw;
-use fifo::Cursor;
+use queue::Cursor;
 ghost use mathlib.Core.Path.{_≡_};
 ghost use Prim.Native.Nat.{_*_, _/_, _^_, _<_, min};
 ghost use Rattle.running.specs.Vertices.{TakesVertices};
@@ -64,9 +64,9 @@ pub fn take_vertices(
                     units: 0,
                 };
             }
-            fifo::copy(fifo::skip(cursor, (n - 1) * bytes), ring, buffer, bytes);
+            queue::copy(queue::skip(cursor, (n - 1) * bytes), ring, buffer, bytes);
             Batch {
-                cursor: fifo::skip(cursor, n * bytes),
+                cursor: queue::skip(cursor, n * bytes),
                 draw: effect::draw_of(primitive, format, left - n as u16),
                 units: n,
             }

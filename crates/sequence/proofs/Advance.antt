@@ -10,7 +10,7 @@ use Rattle.command.specs.Command.{Found, unit, waiting, refused, kindOf, fieldO
 use Rattle.command.specs.Look.{unlessRefused, lookOf}
 use Rattle.command.proofs.Ranges.{Ranged}
 use Rattle.effect.specs.Effect.{bpAfter}
-use Rattle.fifo.proofs.CursorLaws.{reads-pending}
+use Rattle.queue.proofs.CursorLaws.{reads-pending}
 use Rattle.processor.specs.State.{State}
 use Rattle.processor.specs.Gate.{gateOf}
 use Rattle.processor.specs.Step.{queueOf, lookAt, executed, stepFound, stepOf}

@@ -2,7 +2,7 @@
 use mathlib.Core.Path.{refl}
 use Rattle.laws.specs.Values.{upTo}
 use Rattle.fifo.specs.Window.{sizeLimit, validBy, readyBy, countOf}
-use Rattle.fifo.specs.Pending.{pending}
+use Rattle.queue.specs.Pending.{pending}
 use Rattle.processor.specs.State.{freshMachine}
 use Rattle.processor.specs.Gate.{allBelow, bpFits, cpFits, controlFits, drawFits, registersFit, stateFits, gateBy}
 use Rattle.sequence.specs.Promise.{Start}

@@ -8,9 +8,9 @@ use lib.ListN.{length}
 use Rattle.command.specs.declared.Draw.the-variants.{Closed}
 use Rattle.writer.specs.Write.{commandBytes}
 use Rattle.fifo.specs.Window.{countOf, sizeOf}
-use Rattle.fifo.specs.Feeding.{accepted, bytesAccepted}
-use Rattle.fifo.proofs.FeedLaws.{Fits, fits-accepted}
-use Rattle.fifo.proofs.Pending.{length-pending}
+use Rattle.queue.specs.Feeding.{accepted, bytesAccepted}
+use Rattle.queue.proofs.FeedLaws.{Fits, fits-accepted}
+use Rattle.queue.proofs.Pending.{length-pending}
 use Rattle.processor.proofs.Passing.{Passes, gate-passes, passes-gate}
 use Rattle.history.specs.Calls.{World, Call, feed, step, queue, after, fed, afterAll, fedAll}
 use Rattle.history.proofs.Fed.{feed-longer}

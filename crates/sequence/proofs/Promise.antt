@@ -11,7 +11,7 @@ use Rattle.laws.proofs.Cases.{cond-both}
 use Rattle.writer.specs.Write.{commandBytes}
 use Rattle.fifo.specs.declared.Fifo.{Fifo}
 use Rattle.fifo.specs.Registers.{stored, writable, written}
-use Rattle.fifo.proofs.FeedLaws.{pending-after}
+use Rattle.queue.proofs.FeedLaws.{pending-after}
 use Rattle.processor.specs.State.{State}
 use Rattle.processor.specs.Gate.{bpFits}
 use Rattle.processor.proofs.Below.{below-at}

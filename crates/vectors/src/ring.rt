@@ -48,12 +48,12 @@ pub fn starred_count() {
 pub fn filled() {
     let mut ring = [0u8; 256];
     let bytes = [0x48u8; 255];
-    let fed = fifo::feed(at_1000(0x1080, 0x1080), &mut ring, &bytes);
+    let fed = queue::feed(at_1000(0x1080, 0x1080), &mut ring, &bytes);
     let held = fed.fifo;
     let answer = fed.answer;
     line::write(b"255 bytes into a ring of 256: ", answered(answer));
     line::write(b"count of that ring: ", counted(held));
-    let more = fifo::feed(held, &mut ring, b"H");
+    let more = queue::feed(held, &mut ring, b"H");
     let held = more.fifo;
     let answer = more.answer;
     line::write(b"the 256th byte: ", answered(answer));

@@ -7,7 +7,7 @@ use lib.ListN.{length, drop, take-append-drop}
 use Rattle.laws.specs.Values.{upTo}
 use Rattle.laws.proofs.Filled.{firsts}
 use Rattle.fifo.specs.declared.Window.{Window}
-use Rattle.fifo.specs.Feeding.{put}
+use Rattle.queue.specs.Feeding.{put}
 use Rattle.fifo.specs.Window.{withWindow, withWrite, withControl}
 use Rattle.words.specs.State.{fifoOf, windowOf, fifoWords, windowWords, fifoStored}
 

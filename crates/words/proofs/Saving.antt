@@ -15,7 +15,7 @@ use Rattle.command.specs.Command.{kindOf, numbersOf}
 use Rattle.command.specs.declared.Draw.{Draw}
 use Rattle.command.specs.declared.Draw.the-variants.{Closed, Open}
 use Rattle.fifo.specs.declared.Fifo.{Fifo}
-use Rattle.fifo.specs.Feeding.{put}
+use Rattle.queue.specs.Feeding.{put}
 use Rattle.words.specs.State.{cpOf, bpOf, fifoWords, drawWords, wordsBy}
 use Rattle.words.specs.Front.{wordsAfterUnit}
 

@@ -7,7 +7,7 @@ ghost use mathlib.Core.Path.{_≡_};
 ghost use Prim.Native.Nat.{_+_, _≤_};
 ghost use lib.ListN.{length, take, drop};
 ghost use Rattle.command.specs.Command.{kindOf, numbersOf};
-ghost use Rattle.fifo.specs.Feeding.{put};
+ghost use Rattle.queue.specs.Feeding.{put};
 ghost use Rattle.fifo.specs.Window.{withWindow, withWrite, withControl};
 ghost use Rattle.words.specs.State.{windowOf, fifoOf, leftOf, cpOf, bpOf};
 ghost use Rattle.words.specs.State.{windowWords, fifoWords, drawWords, wordsBy, fifoStored};

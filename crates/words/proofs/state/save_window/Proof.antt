@@ -3,7 +3,7 @@ use mathlib.Core.Path.{_≡_, ap, _∙_}
 use mathlib.Core.List.{List}
 use Prim.Native.Nat.{ℕ}
 use lib.ListN.{length}
-use Rattle.fifo.specs.Feeding.{put}
+use Rattle.queue.specs.Feeding.{put}
 use Rattle.words.proofs.Places.{put-window}
 use borrow.Author.Needs.{needs}
 use Rattle.words.proofs.state.save_window.Statement.{statement}

@@ -5,7 +5,7 @@ use native.Mathlib.Omega.{arith}
 use lib.ListN.{length, length-set}
 use lib.Seq.{paste, paste-zero}
 use borrow.Author.Needs.{needs}
-use Rattle.fifo.proofs.Stretches.{store-more, store-all}
+use Rattle.queue.proofs.Stretches.{store-more, store-all}
 use Rattle.words.proofs.state.store.Statement.{statement}
 use Rattle.words.proofs.state.store.Tie as tie
 
