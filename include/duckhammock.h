@@ -188,7 +188,7 @@ enum duckhammock_kind {
     DUCKHAMMOCK_KIND_INVALIDATE_CACHE = 0x48,
     /* a register [8 bits], b number [24 bits] */
     DUCKHAMMOCK_KIND_LOAD_BP = 0x61,
-    DUCKHAMMOCK_KIND_METRICS = 0x68,
+    DUCKHAMMOCK_KIND_METRICS = 0x44,
     /* a primitive [0 to 7], b format [0 to 7], c vertex count [16 bits] */
     DUCKHAMMOCK_KIND_DRAW = 0x80
 };
