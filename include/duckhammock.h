@@ -185,10 +185,10 @@ enum duckhammock_kind {
     DUCKHAMMOCK_KIND_LOAD_INDEXED_15 = 0x38,
     /* a address, b size */
     DUCKHAMMOCK_KIND_CALL_LIST = 0x40,
+    DUCKHAMMOCK_KIND_METRICS = 0x44,
     DUCKHAMMOCK_KIND_INVALIDATE_CACHE = 0x48,
     /* a register [8 bits], b number [24 bits] */
     DUCKHAMMOCK_KIND_LOAD_BP = 0x61,
-    DUCKHAMMOCK_KIND_METRICS = 0x68,
     /* a primitive [0 to 7], b format [0 to 7], c vertex count [16 bits] */
     DUCKHAMMOCK_KIND_DRAW = 0x80
 };
@@ -314,7 +314,10 @@ uint32_t duckhammock_lay_out(const uint32_t format[DUCKHAMMOCK_FORMAT_WORDS],
  * Decodes one attribute of a vertex of the layout's length: 9, 10, 19. It tells
  * the kind (enum duckhammock_value) and nine values, 0 where unused. A float is
  * told by its bits, every NaN as 7FC00000 (hex): duckhammock_raw_words keeps a
- * NaN's pattern.
+ * NaN's pattern. An integer component n is n / 2^s. For a normal s is 7 for u8, 6
+ * for s8, 15 for u16 and 14 for s16, whatever bit 30 of group 0 of the VAT is;
+ * for a position or a texture it is its shift in the VAT, but 0 for 8-bit
+ * components where that bit is clear.
  */
 uint32_t duckhammock_decode(const uint32_t format[DUCKHAMMOCK_FORMAT_WORDS],
                             uint32_t attribute,

@@ -68,7 +68,7 @@ module _ (b : List ℕ) (n : ℕ) where
   fair-opcode op cp h =
       cond-both (Fair n) (eqb op 0x00) (λ _. fair-whole n 1 _ 0 (lit≤ tt) (lit≤ tt))
       (λ _. cond-both (Fair n) (eqb op 0x48) (λ _. fair-whole n 1 _ 0 (lit≤ tt) (lit≤ tt))
-      (λ _. cond-both (Fair n) (eqb op 0x68) (λ _. fair-whole n 1 _ 0 (lit≤ tt) (lit≤ tt))
+      (λ _. cond-both (Fair n) (eqb op 0x44) (λ _. fair-whole n 1 _ 0 (lit≤ tt) (lit≤ tt))
       (λ _. cond-both (Fair n) (eqb op 0x08) (λ _. fair-cp h)
       (λ _. cond-both (Fair n) (eqb op 0x10) (λ _. fair-xf)
       (λ _. cond-both (Fair n) (isIndexed op) (λ _. fair-whole n 5 _ _ (lit≤ tt) (lit≤ tt))

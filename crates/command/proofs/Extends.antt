@@ -203,7 +203,7 @@ module _ (E : Type 0) (p p' : List ℕ) (n n' : ℕ) (more : n ≤ n') (same : (
   ext-opcode op cp exempt =
       ext-cond E n n' more (eqb op 0x00) (λ _. plain _)
       (λ _. ext-cond E n n' more (eqb op 0x48) (λ _. plain _)
-      (λ _. ext-cond E n n' more (eqb op 0x68) (λ _. plain _)
+      (λ _. ext-cond E n n' more (eqb op 0x44) (λ _. plain _)
       (λ _. ext-cond E n n' more (eqb op 0x08) (λ _. ext-cp)
       (λ _. ext-cond E n n' more (eqb op 0x10) (λ e. ext-xf (exempt (eqb-true op 0x10 e)))
       (λ _. ext-cond E n n' more (isIndexed op) (λ _. ext-indexed op cp)

@@ -19,7 +19,7 @@ commandOf : List ℕ → Command
 commandOf c =
     cond (eqb (kindOf c) 0x00) NoOperation
     (cond (eqb (kindOf c) 0x48) InvalidateCache
-    (cond (eqb (kindOf c) 0x68) Metrics
+    (cond (eqb (kindOf c) 0x44) Metrics
     (cond (eqb (kindOf c) 0x08) (LoadCp (fieldOf c 1) (fieldOf c 2))
     (cond (eqb (kindOf c) 0x10) (LoadXf (fieldOf c 1) (fieldOf c 2))
     (cond (eqb (kindOf c) 0x20) (LoadIndexed (fieldOf c 1) (fieldOf c 2) (fieldOf c 3) (fieldOf c 4))

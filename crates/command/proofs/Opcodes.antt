@@ -15,7 +15,7 @@ use Rattle.command.specs.Look.{lookIndexed, lookHead, byOpcode, lookOf}
 pub record Other (op : ℕ) : Type 0 where
   pub no-operation : op ≡ 0x00 → ⊥
   pub invalidate : op ≡ 0x48 → ⊥
-  pub metrics : op ≡ 0x68 → ⊥
+  pub metrics : op ≡ 0x44 → ⊥
   pub cp : op ≡ 0x08 → ⊥
   pub xf : op ≡ 0x10 → ⊥
   pub indexed : (op ≡ 0x20) ⊎ ((op ≡ 0x28) ⊎ ((op ≡ 0x30) ⊎ (op ≡ 0x38))) → ⊥
@@ -41,7 +41,7 @@ module _ (b : List ℕ) (n : ℕ) (cp : List ℕ) where
       rw (
         ne-eqb op 0x00 (o .no-operation),
         ne-eqb op 0x48 (o .invalidate),
-        ne-eqb op 0x68 (o .metrics),
+        ne-eqb op 0x44 (o .metrics),
         ne-eqb op 0x08 (o .cp),
         ne-eqb op 0x10 (o .xf),
         ne-eqb op 0x20 (λ e. o .indexed (inl e)),

@@ -57,7 +57,7 @@ module _ (b : List ℕ) (o : Octets b) (n : ℕ) (cp : List ℕ) where
   of-opcode op =
       cond-both Ranges (eqb op 0x00) (λ _. of-other n 1 _ _ 0 refl refl)
       (λ _. cond-both Ranges (eqb op 0x48) (λ _. of-other n 1 _ _ 0 refl refl)
-      (λ _. cond-both Ranges (eqb op 0x68) (λ _. of-other n 1 _ _ 0 refl refl)
+      (λ _. cond-both Ranges (eqb op 0x44) (λ _. of-other n 1 _ _ 0 refl refl)
       (λ _. cond-both Ranges (eqb op 0x08)
       (λ _. cond-both Ranges (ltb n 2) (λ _. tt)
       (λ _. cond-both Ranges (cpAccepted (getD b 1 0)) (λ _. of-other n 6 _ _ 0 refl refl) (λ _. tt)))

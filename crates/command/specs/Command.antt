@@ -20,7 +20,7 @@ abbrev pub invalidateCache : List ℕ
 invalidateCache = 0x48 ∷ []
 
 abbrev pub metrics : List ℕ
-metrics = 0x68 ∷ []
+metrics = 0x44 ∷ []
 
 abbrev pub loadCp : ℕ → ℕ → List ℕ
 loadCp address n = 0x08 ∷ address ∷ n ∷ []

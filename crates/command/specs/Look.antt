@@ -103,7 +103,7 @@ unfoldable pub byOpcode : ℕ → List ℕ → ℕ → List ℕ → Found
 byOpcode op b n cp =
     cond (eqb op 0x00) (whole n 1 noOperation 0)
     (cond (eqb op 0x48) (whole n 1 invalidateCache 0)
-    (cond (eqb op 0x68) (whole n 1 metrics 0)
+    (cond (eqb op 0x44) (whole n 1 metrics 0)
     (cond (eqb op 0x08) (lookCp b n)
     (cond (eqb op 0x10) (lookXf b n)
     (cond (isIndexed op) (lookIndexed op b n cp)

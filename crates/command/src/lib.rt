@@ -76,7 +76,7 @@ fn look_command(b: [u8; 9], count: u32, cp: &[u32; 60]) -> Next
     match op {
         0x00 => units::unit(count, 1, Command::NoOperation, 0),
         0x48 => units::unit(count, 1, Command::InvalidateCache, 0),
-        0x68 => units::unit(count, 1, Command::Metrics, 0),
+        0x44 => units::unit(count, 1, Command::Metrics, 0),
         0x08 => units::look_cp(b, count),
         0x10 => units::look_xf(b, count),
         0x20 | 0x28 | 0x30 | 0x38 => units::look_indexed(op, b, count, cp),

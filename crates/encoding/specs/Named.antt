@@ -34,7 +34,7 @@ unfoldable pub commandBy : ℕ → ℕ → ℕ → ℕ → List ℕ
 commandBy kind a b c =
     cond (eqb kind 0x00) noOperation
     (cond (eqb kind 0x48) invalidateCache
-    (cond (eqb kind 0x68) metrics
+    (cond (eqb kind 0x44) metrics
     (cond (eqb kind 0x08) (cpNamed a b)
     (cond (eqb kind 0x10) (xfNamed a b)
     (cond (eqb kind 0x20) (indexedNamed 12 a b c)

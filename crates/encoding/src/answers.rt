@@ -39,7 +39,7 @@ pub fn unit_words(command: Command, memory: u32, n: u32) -> [u32; 6]
     match command {
         Command::NoOperation => [0x00, 0, 0, 0, 0, n],
         Command::InvalidateCache => [0x48, 0, 0, 0, 0, n],
-        Command::Metrics => [0x68, 0, 0, 0, 0, n],
+        Command::Metrics => [0x44, 0, 0, 0, 0, n],
         Command::LoadCp { address, number } => [0x08, address as u32, number, 0, 0, n],
         Command::LoadXf { words, address } => [0x10, words as u32, address as u32, 0, 0, n],
         Command::LoadIndexed {

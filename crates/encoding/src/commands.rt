@@ -94,7 +94,7 @@ fn command_by(kind: u32, a: u32, b: u32, c: u32) -> Command
     match kind {
         0x00 => Command::NoOperation,
         0x48 => Command::InvalidateCache,
-        0x68 => Command::Metrics,
+        0x44 => Command::Metrics,
         0x08 => load_cp(a, b),
         0x10 => load_xf(a, b),
         0x20 => load_indexed(12, a, b, c),

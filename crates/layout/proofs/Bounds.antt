@@ -12,7 +12,7 @@ use Rattle.component.proofs.Widths.{width-le, width-some}
 use Rattle.laws.proofs.Table.{at}
 use Rattle.laws.proofs.Cases.{cond-both, and-left}
 use Rattle.layout.specs.declared.Descriptor.{Descriptor}
-use Rattle.layout.specs.Fields.{bitsAt, placeIn, modes, modeOf, countOf, formatOf, fractionBits, fractionOf, indicesOf}
+use Rattle.layout.specs.Fields.{bitsAt, placeIn, modes, modeOf, countOf, formatOf, normalBits, fractionBits, fractionOf, indicesOf}
 use Rattle.layout.specs.Sizes.{isColour, componentsOf, colourWidth, directOf, modeSize, sizeOf, offsetOf}
 use Rattle.layout.specs.Answers.{refusalOf, lengthOf}
 
@@ -39,11 +39,18 @@ pub format-lt : (d : Descriptor) (k : ℕ) → formatOf d k < 8
 unfolding formatOf
 format-lt d k = bits-lt d _ 8 (lit< tt)
 
+pub normal-lt : (f : ℕ) → normalBits f < 32
+normal-lt zero = lit< tt
+normal-lt (suc zero) = lit< tt
+normal-lt (suc (suc zero)) = lit< tt
+normal-lt (suc (suc (suc zero))) = lit< tt
+normal-lt (suc (suc (suc (suc n)))) = lit< tt
+
 -- a shift has five bits
 pub fraction-lt : (d : Descriptor) (k : ℕ) → fractionOf d k < 32
 unfolding fractionOf fractionBits
 fraction-lt d k =
-    cond-both (λ x. x < 32) (eqb k 10) (λ _. lit< tt)
+    cond-both (λ x. x < 32) (eqb k 10) (λ _. normal-lt (formatOf d k))
     (λ _. cond-both (λ x. x < 32) (ltb (formatOf d k) 2 && eqb (bitsAt d 94 2) 0) (λ _. lit< tt) (λ _. bits-lt d _ 32 (lit< tt)))
 
 pub indices-le : (d : Descriptor) (k : ℕ) → indicesOf d k ≤ 3

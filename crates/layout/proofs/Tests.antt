@@ -9,7 +9,7 @@ use lib.Dec.{leb}
 use lib.ListN.{getD}
 use borrow.Author.Tests.{lt-ltb, le-ltb, eq-eqb, ne-eqb}
 use Rattle.layout.specs.declared.Descriptor.{Descriptor}
-use Rattle.layout.specs.Fields.{modeOf, countOf, formatOf, indicesOf}
+use Rattle.layout.specs.Fields.{modeOf, countOf, formatOf, indicesOf, normalBits}
 use Rattle.layout.specs.Sizes.{isColour, colourWidth, directOf, modeSize, indexWidth, sizeOf, offsetOf, unknownAt, anyUnknown}
 
 -- a word past the fifth
@@ -29,6 +29,13 @@ colour-wide (suc (suc zero)) h = absurd (omega arith)
 colour-wide (suc (suc (suc zero))) h = absurd (omega arith)
 colour-wide (suc (suc (suc (suc zero)))) h = absurd (omega arith)
 colour-wide (suc (suc (suc (suc (suc n))))) h = refl
+
+pub normal-none : (f : ℕ) → 4 ≤ f → 0 ≡ normalBits f
+normal-none zero h = absurd (omega arith)
+normal-none (suc zero) h = absurd (omega arith)
+normal-none (suc (suc zero)) h = absurd (omega arith)
+normal-none (suc (suc (suc zero))) h = absurd (omega arith)
+normal-none (suc (suc (suc (suc n)))) h = refl
 
 -- ---- the bytes of attribute k, by its mode
 pub size-matrix : (d : Descriptor) (k : ℕ) → k < 9 → sizeOf d k ≡ modeOf d k

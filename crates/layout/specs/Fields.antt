@@ -5,7 +5,7 @@
 use mathlib.Core.Path.{_≡_}
 use mathlib.Core.Bool.{cond, _&&_}
 use mathlib.Core.List.{List, [], _∷_}
-use Prim.Native.Nat.{ℕ, _+_, _/_, _%_, _^_}
+use Prim.Native.Nat.{ℕ, zero, suc, _+_, _/_, _%_, _^_}
 use lib.Dec.{ltb, eqb}
 use lib.ListN.{getD}
 use Rattle.layout.specs.declared.Descriptor.{Descriptor}
@@ -40,7 +40,7 @@ counts = 160 ∷ 160 ∷ 160 ∷ 160 ∷ 160 ∷ 160 ∷ 160 ∷ 160 ∷ 160 ∷
 unfoldable pub formats : List ℕ
 formats = 160 ∷ 160 ∷ 160 ∷ 160 ∷ 160 ∷ 160 ∷ 160 ∷ 160 ∷ 160 ∷ 65 ∷ 74 ∷ 78 ∷ 82 ∷ 86 ∷ 97 ∷ 106 ∷ 115 ∷ 124 ∷ 134 ∷ 143 ∷ 152 ∷ []
 
--- shifts, of five bits; normals and colours have none, and texture 4's stands in group 2 apart from its format
+-- shifts, of five bits; normals and colours have none there, and texture 4's stands in group 2 apart from its format
 unfoldable pub shifts : List ℕ
 shifts = 160 ∷ 160 ∷ 160 ∷ 160 ∷ 160 ∷ 160 ∷ 160 ∷ 160 ∷ 160 ∷ 68 ∷ 160 ∷ 160 ∷ 160 ∷ 89 ∷ 100 ∷ 109 ∷ 118 ∷ 128 ∷ 137 ∷ 146 ∷ 155 ∷ []
 
@@ -56,10 +56,19 @@ countOf d k = bitsAt d (placeIn counts k) 2
 unfoldable pub formatOf : Descriptor → ℕ → ℕ
 formatOf d k = bitsAt d (placeIn formats k) 8
 
--- "The shift is 0 for 8-bit components where group 0 bit 30 is clear, and for all normals":
--- of attribute, format, that bit and the VAT's shift
+-- the fraction bits of a normal's components by their format (document 02, L2): "s8 has 6 bits, s16 has 14; for unsigned ones use 7 and
+-- 15", "and f32 is untouched"
+abbrev pub normalBits : ℕ → ℕ
+normalBits zero = 7
+normalBits (suc zero) = 6
+normalBits (suc (suc zero)) = 15
+normalBits (suc (suc (suc zero))) = 14
+normalBits (suc (suc (suc (suc n)))) = 0
+
+-- of attribute, format, bit 30 of group 0 and the VAT's shift: "The shift is 0 for 8-bit components where group 0 bit 30 is clear"
+-- (document 01). For normals, where document 01 has 0, document 02 stands: fixed fractions, and "They apply whatever bit 30 says"
 unfoldable pub fractionBits : ℕ → ℕ → ℕ → ℕ → ℕ
-fractionBits k format bit30 shift = cond (eqb k 10) 0 (cond (ltb format 2 && eqb bit30 0) 0 shift)
+fractionBits k format bit30 shift = cond (eqb k 10) (normalBits format) (cond (ltb format 2 && eqb bit30 0) 0 shift)
 
 -- the fraction bits of attribute k's components
 unfoldable pub fractionOf : Descriptor → ℕ → ℕ

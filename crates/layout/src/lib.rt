@@ -10,7 +10,7 @@ ghost use mathlib.Core.Bool.{cond};
 ghost use lib.Dec.{leb};
 ghost use Prim.Native.Nat.{ℕ, _<_, _≤_};
 ghost use lib.ListN.{getD};
-ghost use Rattle.layout.specs.Fields.{words, bitsAt, modeOf, countOf, formatOf, fractionBits, fractionOf, indicesOf, fieldOf};
+ghost use Rattle.layout.specs.Fields.{words, bitsAt, modeOf, countOf, formatOf, normalBits, fractionBits, fractionOf, indicesOf, fieldOf};
 ghost use Rattle.layout.specs.Sizes.{isColour, colourWidth, componentsOf, directOf, sizeOf};
 ghost use Rattle.layout.specs.Answers.{Laid, Filled, Emptied};
 
@@ -95,12 +95,25 @@ fn format(d: Descriptor, k: usize) -> u32
     bits(d, places::format_place(k), 8)
 }
 
-// The fraction bits of a component of attribute k: none for normals, nor for 8-bit components where bit 30 is clear.
+// The fraction bits of a normal's component.
+fn normal_bits(format: u32) -> u32
+    ensures { λ r. ⌜ r ≡ normalBits format ⌝ }
+{
+    match format {
+        0 => 7,
+        1 => 6,
+        2 => 15,
+        3 => 14,
+        _ => 0,
+    }
+}
+
+// The fraction bits of a component of attribute k: normals have their own, 8-bit components none where bit 30 is clear.
 fn fraction_bits(k: usize, format: u32, bit30: u32, shift: u32) -> u32
     ensures { λ r. ⌜ r ≡ fractionBits k format bit30 shift ⌝ }
 {
     if k == 10 {
-        return 0;
+        return normal_bits(format);
     }
     if 2 <= format {
         return shift;

@@ -83,7 +83,7 @@ pub fn tell(unit: [u32; 6]) -> bool {
     match unit[0] {
         0x00 => text::send_text(b"no operation"),
         0x48 => text::send_text(b"discard vertex cache"),
-        0x68 => text::send_text(b"metrics"),
+        0x44 => text::send_text(b"metrics"),
         0x08 => load_cp(unit[1], unit[2]),
         0x10 => load_xf(unit[1], unit[2]),
         0x40 => call_list(unit[1], unit[2]),

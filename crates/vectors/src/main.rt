@@ -1,8 +1,10 @@
-// Document 01's numbers that are run and not proved: a line for each, its name and what came out. A module for each crate.
+// The documents' numbers that are run and not proved: a line for each, its name and what came out. A module for each thing that is run.
 mod commands;
 mod line;
+mod normals;
 mod patches;
 mod ring;
+mod units;
 
 fn main() {
     ring::starred_count();
@@ -11,4 +13,7 @@ fn main() {
     commands::indexed_load();
     commands::draw_heads();
     patches::written();
+    normals::fractions();
+    normals::others();
+    units::metrics();
 }

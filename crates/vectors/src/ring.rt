@@ -6,7 +6,7 @@ use fifo::Fifo;
 use fifo::Window;
 
 // A ring of 256 bytes at 1000 (hex).
-fn at_1000(read: u32, write: u32) -> Fifo {
+pub fn at_1000(read: u32, write: u32) -> Fifo {
     let window = Window {
         start: 0x1000,
         end: 0x1100,
@@ -21,7 +21,7 @@ fn at_1000(read: u32, write: u32) -> Fifo {
 }
 
 // The count, or 1000 and the refusal's number.
-fn counted(fifo: Fifo) -> u32 {
+pub fn counted(fifo: Fifo) -> u32 {
     match fifo::count(fifo) {
         Counted::Count(n) => n,
         Counted::Refused(reason) => 1000 + refusal::number(reason) as u32,
@@ -29,7 +29,7 @@ fn counted(fifo: Fifo) -> u32 {
 }
 
 // 0, or the refusal's number.
-fn answered(answer: Answer) -> u32 {
+pub fn answered(answer: Answer) -> u32 {
     match answer {
         Answer::Accepted => 0,
         Answer::Refused(reason) => refusal::number(reason) as u32,

@@ -1,11 +1,12 @@
--- "Worked numbers": the starred ones as one table. One computed test compares what the definitions give with what document 01 says.
+-- "Worked numbers": the starred ones as one table. One computed test compares what the definitions give with what document 01 says,
+-- and for the normals document 02.
 -- A further row is added to `rows`, and the definitions that it opens to the lines under `worked`.
 use mathlib.Core.Path.{_≡_, refl, ap, _∙_}
 use mathlib.Core.Bool.{cond}
 use mathlib.Core.List.{List, [], _∷_}
 use Prim.Native.Nat.{ℕ, _+_, _*_, _^_}
 use lib.ListN.{getD, set, replicate}
-use lib.Ieee.{round, toBits}
+use lib.Ieee.{round, toBits, ofBits}
 use Rattle.laws.specs.Values.{upTo}
 use Rattle.octets.specs.BigEndian.{bigEndian, bytesOf}
 use Rattle.component.specs.Component.{componentOf}
@@ -46,6 +47,12 @@ normal vat = cond (acceptedOf (named 0x1C00 vat)) (sizeOf (named 0x1C00 vat) 10)
 abbrev first : ℕ → ℕ → ℕ → List ℕ → ℕ
 first format shift bit30 bytes = getD (decodingOf (named 0x200 (2 * format + 16 * shift + bit30 * 2 ^ 30)) 9 bytes) 2 0
 
+-- component i, by its bits, of a direct normal behind a direct position of two bytes: of the count bit, the format, bit 30 and the
+-- normal's bytes
+abbrev normalPart : ℕ → ℕ → ℕ → List ℕ → ℕ → ℕ
+normalPart count format bit30 bytes i =
+    getD (decodingOf (named 0xA00 (count * 2 ^ 9 + format * 2 ^ 10 + bit30 * 2 ^ 30)) 10 (0 ∷ 0 ∷ bytes)) (2 + i) 0
+
 -- BP registers that are zero but for one
 abbrev only : ℕ → ℕ → List ℕ
 only r n = set (replicate bpCount 0) r n
@@ -59,9 +66,24 @@ wrapped =
 abbrev holding : ℕ → ℕ → List ℕ
 holding n mask = set (set (replicate 256 0) 0x41 n) 0xFE mask
 
--- a row: what a definition gives, and what document 01 says
+-- a row: what a definition gives, and what the document says
 pub data Row : Type 0 where
   row : ℕ → ℕ → Row
+
+-- document 02, L2, in whole numbers: with 6, 14, 7 and 15 fraction bits 40, 4000, 80 and 8000 (hex) are 1.0; bit 30 clear and set give
+-- the same; f32 is untouched; the ninth component of a normal of nine
+unfoldable pub normals : List Row
+normals =
+    row (normalPart 0 1 0 (0x40 ∷ 0 ∷ 0 ∷ []) 0) 0x3F800000
+    ∷ row (normalPart 0 1 1 (0x40 ∷ 0 ∷ 0 ∷ []) 0) 0x3F800000
+    ∷ row (normalPart 0 1 0 (0x80 ∷ 0 ∷ 0 ∷ []) 0) 0xC0000000
+    ∷ row (normalPart 0 0 0 (0x80 ∷ 0 ∷ 0 ∷ []) 0) 0x3F800000
+    ∷ row (normalPart 0 0 1 (0x80 ∷ 0 ∷ 0 ∷ []) 0) 0x3F800000
+    ∷ row (normalPart 0 3 0 (0x40 ∷ 0 ∷ 0 ∷ 0 ∷ 0 ∷ 0 ∷ []) 0) 0x3F800000
+    ∷ row (normalPart 0 2 0 (0x80 ∷ 0 ∷ 0 ∷ 0 ∷ 0 ∷ 0 ∷ []) 0) 0x3F800000
+    ∷ row (normalPart 0 4 0 (0x3F ∷ 0x80 ∷ 0 ∷ 0 ∷ 0 ∷ 0 ∷ 0 ∷ 0 ∷ 0 ∷ 0 ∷ 0 ∷ 0 ∷ []) 0) 0x3F800000
+    ∷ row (normalPart 1 1 0 (0 ∷ 0 ∷ 0 ∷ 0 ∷ 0 ∷ 0 ∷ 0 ∷ 0 ∷ 0x40 ∷ []) 8) 0x3F800000
+    ∷ []
 
 -- the table, in document 01's order
 unfoldable pub rows : List Row
@@ -80,7 +102,7 @@ rows =
     ∷ row (first 2 16 0 (0xFF ∷ 0xFF ∷ 0 ∷ 0 ∷ [])) 0x3F7FFF00
     ∷ row (first 3 31 0 (0xFF ∷ 0xFF ∷ 0 ∷ 0 ∷ [])) 0xB0000000
     ∷ row (first 0 3 0 (8 ∷ 0 ∷ [])) 0x41000000
-    ∷ []
+    ∷ normals
 
 -- the left and the right numbers of a table
 unfoldable pub given : List Row → List ℕ
@@ -92,9 +114,9 @@ said [] = []
 said (row a b ∷ l) = b ∷ said l
 
 pub worked : given rows ≡ said rows
-unfolding rows given said bitsAt modes counts formats shifts modeOf countOf formatOf fractionBits fractionOf indicesOf
+unfolding rows normals given said bitsAt modes counts formats shifts modeOf countOf formatOf fractionBits fractionOf indicesOf
     directOf sizeOf offsetOf unknownAt anyUnknown refusalOf lengthOf
-    refusalAt attributeList directList componentList paddedList componentAt rawAt bigEndian componentOf upTo round toBits
+    refusalAt attributeList directList componentList paddedList componentAt rawAt bigEndian componentOf upTo round toBits ofBits
     sizeLimit validBy countIn countAnswer masked storedBp loadedBp
 worked = refl
 

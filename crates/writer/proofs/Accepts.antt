@@ -152,7 +152,7 @@ module _ (u xf : List ℕ) (o : Octets u) (size : length xf ≡ xfCount) (n : �
   of-opcode op e =
       cond-both (Again u xf) (eqb op 0x00) (λ t. plain 0x00 (e ∙ eqb-true op 0x00 t) refl refl refl refl refl)
       (λ _. cond-both (Again u xf) (eqb op 0x48) (λ t. plain 0x48 (e ∙ eqb-true op 0x48 t) refl refl refl refl refl)
-      (λ _. cond-both (Again u xf) (eqb op 0x68) (λ t. plain 0x68 (e ∙ eqb-true op 0x68 t) refl refl refl refl refl)
+      (λ _. cond-both (Again u xf) (eqb op 0x44) (λ t. plain 0x44 (e ∙ eqb-true op 0x44 t) refl refl refl refl refl)
       (λ _. cond-both (Again u xf) (eqb op 0x08) (λ t. of-cp (e ∙ eqb-true op 0x08 t))
       (λ _. cond-both (Again u xf) (eqb op 0x10) (λ t. of-xf (e ∙ eqb-true op 0x10 t))
       (λ _. cond-both (Again u xf) (isIndexed op) (λ t. of-indexed op e t)

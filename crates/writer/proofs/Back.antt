@@ -32,7 +32,7 @@ module _ (words rest cp : List ℕ) where
   unfolding commandBytes headOf wordsOf wordBytes unwritable unaddressed pastEnd reported byOpcode bytesOf
   looks-back NoOperation t w a p d = sym (opened 0x00 rest cp) ∙ there (length (0x00 ∷ rest)) 1 _ 0 (omega arith)
   looks-back InvalidateCache t w a p d = sym (opened 0x48 rest cp) ∙ there (length (0x48 ∷ rest)) 1 _ 0 (omega arith)
-  looks-back Metrics t w a p d = sym (opened 0x68 rest cp) ∙ there (length (0x68 ∷ rest)) 1 _ 0 (omega arith)
+  looks-back Metrics t w a p d = sym (opened 0x44 rest cp) ∙ there (length (0x44 ∷ rest)) 1 _ 0 (omega arith)
   looks-back (LoadCp address n) t w a p d = cp-back rest cp address n (t .1) (not-false (cpAccepted address) a)
   looks-back (CallList address size) t w a p d = call-back rest cp address size (t .0) (t .1)
   looks-back (LoadBp register n) t w a p d = bp-back rest cp register n (leb-false (2 ^ 24) n w)

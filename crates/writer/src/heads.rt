@@ -19,7 +19,7 @@ fn low(v: u32) -> u8
     (v % 256) as u8
 }
 
-// 00, 48, 68.
+// 00, 48, 44.
 fn plain(op: u8) -> Front
     ensures { λ r. ⌜ (r .bytes ≡ op ∷ replicate 8 0) × (r .length ≡ 1) ⌝ }
 {
@@ -116,7 +116,7 @@ pub fn head(command: Command) -> Front
     match command {
         Command::NoOperation => plain(0x00),
         Command::InvalidateCache => plain(0x48),
-        Command::Metrics => plain(0x68),
+        Command::Metrics => plain(0x44),
         Command::LoadCp { address, number } => head_cp(address, number),
         Command::LoadXf { words, address } => head_xf(words, address),
         Command::LoadIndexed {

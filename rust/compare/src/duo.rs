@@ -104,7 +104,8 @@ impl Duo {
         for at in 0..2 {
             answers[at] = calls[at].make(&*self.sides[at], &mut self.worlds[at], &self.lent);
         }
-        self.tally.count(&calls[0], answers[0]);
+        self.tally
+            .count(&calls[0], answers[0], self.worlds[0].next_byte());
         let made = Made {
             names: [self.sides[0].name(), self.sides[1].name()],
             lent: &self.lent,

@@ -6,7 +6,7 @@ use model::words::FormatWords;
 /// The places of the component formats in the VAT, as (group, bit).
 const COMPONENT_FORMATS: [(usize, u32); 10] = [
     (0, 1),
-    (0, 10),
+    NORMAL_FORMAT,
     (0, 22),
     (1, 1),
     (1, 10),
@@ -16,6 +16,7 @@ const COMPONENT_FORMATS: [(usize, u32); 10] = [
     (2, 15),
     (2, 24),
 ];
+const NORMAL_FORMAT: (usize, u32) = (0, 10);
 const COLOUR_FORMATS: [(usize, u32); 2] = [(0, 14), (0, 18)];
 
 fn put(vat: &mut [u32; 3], (group, bit): (usize, u32), value: u32) {
@@ -73,6 +74,18 @@ fn words(vcd: [u32; 2], vat: [u32; 3]) -> FormatWords {
 
 pub fn good_format(random: &mut Random) -> FormatWords {
     words(good_vcd(random), good_vat(random))
+}
+
+/// The same with a direct normal, each of its formats as often as any other.
+pub fn format_with_normal(random: &mut Random) -> FormatWords {
+    let mut vcd = good_vcd(random);
+    vcd[0] = vcd[0] & !0x1800 | 0x800;
+    let mut vat = good_vat(random);
+    put(&mut vat, NORMAL_FORMAT, random.below(5));
+    if random.once_in(2) {
+        vat[0] ^= 1 << 9;
+    }
+    words(vcd, vat)
 }
 
 /// A format that is good more often than not.

@@ -1,17 +1,36 @@
 //! How many calls of each kind were made, and what they answered.
 
 use crate::call::{Call, Kind, KINDS};
-use model::words::{DONE, WAITING};
+use model::words::{FormatWords, DONE, WAITING};
 use std::collections::BTreeMap;
 
 /// What a unit can be.
 const UNITS: [u32; 13] = [
-    0x00, 0x01, 0x08, 0x10, 0x20, 0x28, 0x30, 0x38, 0x40, 0x48, 0x61, 0x68, 0x80,
+    0x00, VERTEX, 0x08, 0x10, 0x20, 0x28, 0x30, 0x38, 0x40, 0x44, 0x48, 0x61, 0x80,
 ];
+/// A unit that is no command to write.
+const VERTEX: u32 = 0x01;
 /// What an attribute decodes to.
 const VALUES: [u32; 9] = [0, 1, 2, 3, 4, 5, 6, 7, 8];
 
+/// The metrics opcode until document 02's L2, and the calls that meet it.
+const OLD_METRICS: u32 = 0x68;
+const MEET_OLD_METRICS: [Kind; 3] = [Kind::Step, Kind::Run, Kind::WriteCommand];
+const UNKNOWN_OPCODE: u32 = 6;
+const UNWRITABLE: u32 = 18;
+
+const NORMAL: u32 = 10;
+/// The formats of a normal, by number.
+const FORMATS: [&str; 5] = ["u8", "s8", "u16", "s16", "f32"];
+/// Count bit and bit 30 of a normal's VAT.
+const COUNTS_AND_BITS: [(u32, u32); 4] = [(0, 0), (0, 1), (1, 0), (1, 1)];
+/// The calls that take a normal apart.
+const TAKE_NORMALS: [Kind; 2] = [Kind::Decode, Kind::RawWords];
+
 type Counts<K> = BTreeMap<K, u64>;
+
+/// A direct normal: the call that took it apart, its format, count bit, bit 30.
+type Normal = (Kind, u32, (u32, u32));
 
 #[derive(Default)]
 pub struct Tally {
@@ -19,10 +38,15 @@ pub struct Tally {
     answers: Counts<(Kind, u32)>,
     /// By the kind of the unit that a step did.
     units: Counts<u32>,
+    /// By the kind of the command that was written.
+    written: Counts<u32>,
+    /// 68, refused as an opcode or as a kind to write.
+    old_metrics: Counts<Kind>,
     /// By the kind of the attribute that was decoded.
     values: Counts<u32>,
     /// By the number of raw words told.
     raw_words: Counts<u32>,
+    normals: Counts<Normal>,
     /// Waiting answers by the bytes lacking.
     lacking: Counts<u32>,
     /// Units that runs did.
@@ -33,16 +57,37 @@ fn add<K: Ord>(counts: &mut Counts<K>, key: K) {
     *counts.entry(key).or_default() += 1;
 }
 
+/// How often; 0 where it is not there.
+fn times<K: Ord>(counts: &Counts<K>, key: &K) -> u64 {
+    counts.get(key).copied().unwrap_or(0)
+}
+
 impl Tally {
-    /// Counts a call as it is after its answer.
-    pub fn count(&mut self, call: &Call, answer: u32) {
+    /// Counts a call as it is after its answer, with the byte that the read
+    /// pointer is at then.
+    pub fn count(&mut self, call: &Call, answer: u32, next: Option<u8>) {
         self.calls += 1;
         add(&mut self.answers, (call.kind(), answer));
         match call {
-            Call::Step { unit, .. } if answer == DONE => add(&mut self.units, unit[0]),
-            Call::Step { lacking, .. } if answer == WAITING => add(&mut self.lacking, *lacking),
+            Call::Step { .. } | Call::Run { .. } => self.count_units(call, answer, next),
             Call::Decode { values, .. } if answer == DONE => add(&mut self.values, values[0]),
             Call::RawWords { values, .. } if answer == DONE => add(&mut self.raw_words, values[0]),
+            Call::WriteCommand { command, .. } => match (command[0], answer) {
+                (kind, DONE) => add(&mut self.written, kind),
+                (OLD_METRICS, UNWRITABLE) => add(&mut self.old_metrics, Kind::WriteCommand),
+                _ => {}
+            },
+            _ => {}
+        }
+        if answer == DONE {
+            self.count_normal(call);
+        }
+    }
+
+    fn count_units(&mut self, call: &Call, answer: u32, next: Option<u8>) {
+        match call {
+            Call::Step { unit, .. } if answer == DONE => add(&mut self.units, unit[0]),
+            Call::Step { lacking, .. } if answer == WAITING => add(&mut self.lacking, *lacking),
             Call::Run { report, .. } => {
                 self.run_units += u64::from(report[0]);
                 if answer == WAITING {
@@ -51,6 +96,26 @@ impl Tally {
             }
             _ => {}
         }
+        if answer == UNKNOWN_OPCODE && next.map(u32::from) == Some(OLD_METRICS) {
+            add(&mut self.old_metrics, call.kind());
+        }
+    }
+
+    fn count_normal(&mut self, call: &Call) {
+        let (Call::Decode {
+            format, attribute, ..
+        }
+        | Call::RawWords {
+            format, attribute, ..
+        }) = call
+        else {
+            return;
+        };
+        if *attribute == NORMAL && normal_is_direct(format) {
+            let bits = |from: u32, mask: u32| format[2] >> from & mask;
+            let normal = (call.kind(), bits(10, 7), (bits(9, 1), bits(30, 1)));
+            add(&mut self.normals, normal);
+        }
     }
 
     fn of_kind(&self, kind: Kind) -> u64 {
@@ -58,8 +123,8 @@ impl Tally {
         self.answers.range(range).map(|(_, count)| count).sum()
     }
 
-    /// The answers that a call can give and did not, and the kinds of units and
-    /// attributes that were not told.
+    /// The answers that a call can give and did not, and the kinds of units,
+    /// commands, attributes and normals that did not come up.
     pub fn unreached(&self) -> Vec<String> {
         let mut unreached = Vec::new();
         for kind in KINDS {
@@ -69,14 +134,42 @@ impl Tally {
                 }
             }
         }
-        for unit in UNITS.iter().filter(|unit| !self.units.contains_key(unit)) {
-            unreached.push(format!("a step of kind {unit:02X}"));
+        for unit in UNITS {
+            if !self.units.contains_key(&unit) {
+                unreached.push(format!("a step of kind {unit:02X}"));
+            }
+            if unit != VERTEX && !self.written.contains_key(&unit) {
+                unreached.push(format!("a command of kind {unit:02X} written"));
+            }
         }
-        for value in VALUES
-            .iter()
-            .filter(|value| !self.values.contains_key(value))
-        {
-            unreached.push(format!("an attribute of kind {value}"));
+        for kind in MEET_OLD_METRICS {
+            if !self.old_metrics.contains_key(&kind) {
+                unreached.push(format!("{} refusing {OLD_METRICS:02X}", kind.name()));
+            }
+        }
+        for value in VALUES {
+            if !self.values.contains_key(&value) {
+                unreached.push(format!("an attribute of kind {value}"));
+            }
+        }
+        unreached.extend(self.unreached_normals());
+        unreached
+    }
+
+    fn unreached_normals(&self) -> Vec<String> {
+        let mut unreached = Vec::new();
+        for kind in TAKE_NORMALS {
+            for (format, name) in (0..).zip(FORMATS) {
+                for bits in COUNTS_AND_BITS {
+                    if !self.normals.contains_key(&(kind, format, bits)) {
+                        let (count, bit_30) = bits;
+                        let call = kind.name();
+                        unreached.push(format!(
+                            "{call} of a normal of {name}, count bit {count}, bit 30 {bit_30}"
+                        ));
+                    }
+                }
+            }
         }
         unreached
     }
@@ -94,14 +187,38 @@ impl Tally {
         }
         println!("units done by steps, by kind:{}", list(&self.units));
         println!("units done by runs: {}", self.run_units);
+        println!("commands written, by kind:{}", list(&self.written));
+        let old: String = MEET_OLD_METRICS
+            .map(|kind| format!("  {}:{}", kind.name(), times(&self.old_metrics, &kind)))
+            .concat();
+        println!("{OLD_METRICS:02X} refused, by call:{old}");
         println!("attributes decoded, by kind:{}", list(&self.values));
         println!("raw words, by how many:{}", list(&self.raw_words));
+        println!("direct normals (of 3 with bit 30 clear, set; of 9 with it clear, set):");
+        for kind in TAKE_NORMALS {
+            println!("  {:<15}{}", kind.name(), self.list_normals(kind));
+        }
         let most = self.lacking.keys().next_back().copied().unwrap_or(0);
         println!(
             "waiting: {} numbers of bytes lacking, at most {most}",
             self.lacking.len()
         );
     }
+
+    /// The normals that a call took apart, by format.
+    fn list_normals(&self, kind: Kind) -> String {
+        let of_format = |(format, name)| {
+            let counts =
+                COUNTS_AND_BITS.map(|bits| times(&self.normals, &(kind, format, bits)).to_string());
+            format!("  {name}:{}", counts.join(","))
+        };
+        (0..).zip(FORMATS).map(of_format).collect()
+    }
+}
+
+/// VCD group 0, bits 11 and 12: 1 is direct.
+fn normal_is_direct(format: &FormatWords) -> bool {
+    format[0] >> 11 & 3 == 1
 }
 
 fn told(answer: u32) -> String {

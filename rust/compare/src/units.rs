@@ -33,7 +33,7 @@ impl Units {
     /// One more unit, or a draw with its vertices.
     pub fn add(&mut self, random: &mut Random) {
         match random.below(12) {
-            0 => self.units.push(vec![random.pick(&[0x00, 0x48, 0x68])]),
+            0 => self.units.push(vec![random.pick(&[0x00, 0x44, 0x48])]),
             1 | 2 => self.add_cp_load(random),
             3 | 4 => self.add_xf_load(random),
             5 => self.add_indexed_load(random),
@@ -193,10 +193,14 @@ impl Units {
     }
 }
 
+/// Often 68, the metrics opcode until document 02's L2.
 pub fn bad_opcode(random: &mut Random) -> u8 {
+    if random.once_in(4) {
+        return 0x68;
+    }
     loop {
         let opcode = random.u8();
-        let good = matches!(opcode, 0x00 | 0x48 | 0x68 | 0x08 | 0x10 | 0x40 | 0x61)
+        let good = matches!(opcode, 0x00 | 0x44 | 0x48 | 0x08 | 0x10 | 0x40 | 0x61)
             || matches!(opcode, 0x20 | 0x28 | 0x30 | 0x38 | 0x80..=0xBF);
         if !good {
             return opcode;

@@ -75,6 +75,12 @@ impl World {
         grow(&mut self.vertex, lent.vertex);
     }
 
+    /// The byte at the read pointer; none where that is outside the ring.
+    pub fn next_byte(&self) -> Option<u8> {
+        let place = self.state[word::READ].wrapping_sub(self.state[word::START]);
+        self.ring.get(place as usize).copied()
+    }
+
     /// The same as another, without new memory where the lengths are the same.
     pub fn copy_from(&mut self, other: &World) {
         self.state = other.state;

@@ -94,6 +94,7 @@ fn a_fault_of_both_sides() {
         ShortPatchPartly,
         TailCleared,
         MergeOfFirstWithin,
+        OldMetricsToWriteGives6,
     ] {
         let mut duo = Duo::new(Box::new(Faulty(fault)), Box::new(Faulty(fault)));
         scenarios::compare(&mut duo, SEED, CALLS);

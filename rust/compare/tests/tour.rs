@@ -1,7 +1,8 @@
 //! Every call, accepted and refused, of the proved library and of the twin. The
-//! answers that are expected come from document 01 and `include/duckhammock.h`.
-//! That a refused call changes nothing, and that only a waiting step tells the
-//! bytes lacking, is seen after every call (`Duo`).
+//! answers that are expected come from document 01, from document 02's L2, which
+//! stands where the two differ, and from `include/duckhammock.h`. That a refused
+//! call changes nothing, and that only a waiting step tells the bytes lacking, is
+//! seen after every call (`Duo`).
 #![forbid(unsafe_code)]
 
 use compare::call::Patch;
@@ -192,6 +193,7 @@ fn every_call_is_answered_as_the_papers_say() {
     draw(&mut tour);
     most_units(&mut tour);
     indexed_loads(&mut tour);
+    metrics(&mut tour);
     refused_units(&mut tour);
     refused_benches(&mut tour);
     refused_lengths(&mut tour);
@@ -200,6 +202,8 @@ fn every_call_is_answered_as_the_papers_say() {
     layouts(&mut tour);
     attributes(&mut tour);
     normals(&mut tour);
+    fractions_of_normals(&mut tour);
+    shifts_of_others(&mut tour);
     refused_vertices(&mut tour);
     commands(&mut tour);
     refused_commands(&mut tour);
@@ -301,7 +305,7 @@ fn stream(tour: &mut Tour) {
     );
     tour.feeds(&[0x61, 0xFE, 0, 0, 0x0F, 0x61, 0x41, 0, 0, 0xA5], DONE);
     tour.feeds(
-        &[0x40, 0, 0, 0x20, 0, 0, 0, 1, 0, 0x00, 0x48, 0x68, 0x61],
+        &[0x40, 0, 0, 0x20, 0, 0, 0, 1, 0, 0x00, 0x48, 0x44, 0x61],
         DONE,
     );
     tour.runs(0, DONE, [0, 0]);
@@ -315,7 +319,7 @@ fn stream(tour: &mut Tour) {
     tour.steps([0x40, 0x2000, 0x100, 0, 0, 9]);
     tour.steps([0x00, 0, 0, 0, 0, 1]);
     tour.steps([0x48, 0, 0, 0, 0, 1]);
-    tour.steps([0x68, 0, 0, 0, 0, 1]);
+    tour.steps([0x44, 0, 0, 0, 0, 1]);
     tour.runs(65_535, WAITING, [0, 4]);
     tour.feeds(&[0x41, 1, 2, 3], DONE);
     tour.runs(9, WAITING, [1, 1]);
@@ -416,10 +420,49 @@ fn bench(tour: &mut Tour) {
     }
 }
 
+/// "Accept 44 without effect; 68 now gives refusal 6." (document 02, L2.)
+fn metrics(tour: &mut Tour) {
+    bench(tour);
+    tour.feeds(&[0x44], DONE);
+    let before = tour.0.world().clone();
+    tour.steps([0x44, 0, 0, 0, 0, 1]);
+    tour.waits(1);
+    // But for the read pointer all is as it was.
+    tour.holds(word::READ, 0x1081);
+    tour.0.poke(word::READ, 0x1080);
+    assert!(tour.0.world() == &before);
+
+    bench(tour);
+    tour.feeds(&[0x68], DONE);
+    tour.step_refused(6);
+    tour.runs(1, 6, [0, 0]);
+    tour.holds(word::READ, 0x1080);
+    tour.reads(0x030, 1);
+    // More bytes do not change that.
+    tour.feeds(&[0x44, 0, 0, 0], DONE);
+    tour.step_refused(6);
+    tour.reads(0x030, 5);
+
+    // A run keeps the units before it.
+    bench(tour);
+    tour.feeds(&[0x44, 0x44, 0x68, 0x44], DONE);
+    tour.runs(9, 6, [2, 0]);
+    tour.holds(word::READ, 0x1082);
+    tour.reads(0x030, 2);
+
+    // In an open draw both are bytes of a vertex.
+    bench(tour);
+    tour.0.poke(word::VCD_0, 0x200);
+    tour.feeds(&[0x80, 0, 1, 0x68, 0x44], DONE);
+    tour.runs(9, WAITING, [2, 1]);
+    assert_eq!(tour.0.world().vertex[..2], [0x68, 0x44]);
+}
+
 /// Refused at the deciding byte and not before it.
 fn refused_units(tour: &mut Tour) {
-    let cases: [(&[u8], u32); 5] = [
+    let cases: [(&[u8], u32); 6] = [
         (&[0x01], 6),
+        (&[0x68], 6),
         (&[0x08, 0x21], 7),
         (&[0x10, 0, 1, 0x10, 0x57], 8),
         (&[0x90], 9),
@@ -602,7 +645,8 @@ fn attributes(tour: &mut Tour) {
     tour.decodes(&MIXED, 1, &VERTEX, &[0]);
     let position = [5, 0x7FC0_0000, 0x8000_0000, 0x3F80_0000];
     tour.decodes(&MIXED, 9, &VERTEX, &position);
-    let normal = [7, 0xBF80_0000, 0xC700_0000, 0x4040_0000];
+    // -1, -32,768 and 3 by 2^14, whatever the VAT's shifts are.
+    let normal = [7, 0xB880_0000, 0xC000_0000, 0x3940_0000];
     tour.decodes(&MIXED, 10, &VERTEX, &normal);
     tour.decodes(&MIXED, 11, &VERTEX, &[4, 0xDEAD_BEEF]);
     // 8 / 2^3 and 255 / 2^3.
@@ -639,6 +683,68 @@ fn normals(tour: &mut Tour) {
     tour.raw(&INDICES, 10, &bytes[..8], &[0]);
 }
 
+/// "s8 has 6 bits, s16 has 14; for unsigned ones use 7 and 15. They apply whatever
+/// bit 30 says, and f32 is untouched." (document 02, L2.) Of three and of nine.
+fn fractions_of_normals(tour: &mut Tour) {
+    // Three components in each format, and their bits.
+    let cases: [(&[u8], [u32; 3]); 5] = [
+        // u8: 1, 1/128, 255/128.
+        (&[0x80, 0x01, 0xFF], [0x3F80_0000, 0x3C00_0000, 0x3FFF_0000]),
+        // s8: 1, -2, -1/64.
+        (&[0x40, 0x80, 0xFF], [0x3F80_0000, 0xC000_0000, 0xBC80_0000]),
+        // u16: 1, 1/32768, 65535/32768.
+        (
+            &[0x80, 0x00, 0x00, 0x01, 0xFF, 0xFF],
+            [0x3F80_0000, 0x3800_0000, 0x3FFF_FF00],
+        ),
+        // s16: 1, -2, 0.
+        (
+            &[0x40, 0x00, 0x80, 0x00, 0x00, 0x00],
+            [0x3F80_0000, 0xC000_0000, 0x0000_0000],
+        ),
+        // f32: 64, the number next below 0, -0.
+        (
+            &[0x42, 0x80, 0, 0, 0x80, 0, 0, 0x01, 0x80, 0, 0, 0],
+            [0x4280_0000, 0x8000_0001, 0x8000_0000],
+        ),
+    ];
+    // All other shifts are set: position's and texture 0's.
+    let shifts = 31 << 4 | 31 << 25;
+    for (component, (bytes, bits)) in (0..).zip(cases) {
+        let vertex = [&[9, 9], bytes, bytes, bytes].concat();
+        let three = &vertex[..2 + bytes.len()];
+        let nine = [bits, bits, bits].concat();
+        for bit_30 in [0, 1 << 30] {
+            let group_0 = component << 10 | bit_30 | shifts;
+            let format = [0xA00, 0, group_0, 0, 0];
+            tour.decodes(&format, 10, three, &[&[7], &bits[..]].concat());
+            let format_of_nine = [0xA00, 0, group_0 | 1 << 9, 0, 0];
+            tour.decodes(&format_of_nine, 10, &vertex, &[&[8], &nine[..]].concat());
+            if component == 4 {
+                tour.raw(&format, 10, three, &[&[3], &bits[..]].concat());
+                tour.raw(&format_of_nine, 10, &vertex, &[&[9], &nine[..]].concat());
+            } else {
+                tour.raw(&format, 10, three, &[0]);
+                tour.raw(&format_of_nine, 10, &vertex, &[0]);
+            }
+        }
+    }
+}
+
+/// Positions and textures keep document 01's rule: "The shift is 0 for 8-bit
+/// components where group 0 bit 30 is clear".
+fn shifts_of_others(tour: &mut Tour) {
+    // s8 with shifts 6 and 5: 40 and 80, then 40.
+    let group_0 = 1 << 1 | 6 << 4 | 1 << 22 | 5 << 25;
+    let vertex = [0x40, 0x80, 0x40];
+    let clear = [0x200, 1, group_0, 0, 0];
+    tour.decodes(&clear, 9, &vertex, &[5, 0x4280_0000, 0xC300_0000]);
+    tour.decodes(&clear, 13, &vertex, &[6, 0x4280_0000]);
+    let set = [0x200, 1, group_0 | 1 << 30, 0, 0];
+    tour.decodes(&set, 9, &vertex, &[5, 0x3F80_0000, 0xC000_0000]);
+    tour.decodes(&set, 13, &vertex, &[6, 0x4000_0000]);
+}
+
 fn refused_vertices(tour: &mut Tour) {
     for attribute in [21, 22, 255, 256 + 9, 0x1_0009, u32::MAX] {
         tour.not_decoded(&MIXED, attribute, &VERTEX, 19);
@@ -658,7 +764,7 @@ fn commands(tour: &mut Tour) {
     let cases: [(CommandWords, &[u8]); 11] = [
         ([0x00, 0, 0, 0, 0], &[0x00]),
         ([0x48, 9, 9, 9, 9], &[0x48]),
-        ([0x68, 0, 0, 0, 0], &[0x68]),
+        ([0x44, 9, 0, 0, 0], &[0x44]),
         ([0x08, 0x50, 0x2200, 9, 9], &[0x08, 0x50, 0, 0, 0x22, 0]),
         ([0x20, 3, 12, 0xFFF, 0], &[0x20, 0, 3, 0xBF, 0xFF]),
         ([0x28, 0, 1, 0, 0], &[0x28, 0, 0, 0, 0]),
@@ -689,7 +795,9 @@ fn refused_commands(tour: &mut Tour) {
     for command in [
         [0x01, 0, 0, 0, 0],
         [0x02, 0, 0, 0, 0],
+        [0x68, 0, 0, 0, 0],
         [0x100, 0, 0, 0, 0],
+        [0x144, 0, 0, 0, 0],
         [0x161, 0x41, 0xA5, 0, 0],
         [0x08, 0x150, 0, 0, 0],
         [0x10, 0x101, 0, 0, 0],
@@ -714,6 +822,9 @@ fn refused_commands(tour: &mut Tour) {
     tour.command_refused([0x10, 1, 0xFFFF, 0, 0], &[1], 0, 8);
     tour.command_refused([0x40, 1, 2, 0, 0], &[], 8, 16);
     tour.command_refused([0x00, 0, 0, 0, 0], &[], 0, 16);
+    tour.command_refused([0x44, 0, 0, 0, 0], &[], 0, 16);
+    // No kind, and so not 16 (document 02, L2).
+    tour.command_refused([0x68, 0, 0, 0, 0], &[], 9, 18);
 }
 
 fn patches(tour: &mut Tour) {

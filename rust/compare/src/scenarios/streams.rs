@@ -3,7 +3,7 @@
 use crate::duo::Duo;
 use crate::random::Random;
 use crate::stream::{look, open_ring, open_ring_of, play, scatter_registers, Pace, Ring};
-use crate::units::Units;
+use crate::units::{bad_opcode, Units};
 
 /// Units that mean something; sometimes the last is refused.
 pub fn stream(duo: &mut Duo, random: &mut Random) {
@@ -45,13 +45,18 @@ pub fn runs(duo: &mut Duo, random: &mut Random) {
     play(duo, random, &ring, &units.bytes(), Pace::Runs);
 }
 
-/// Units with bytes changed, put in or left out; feeds may be refused.
+/// Units with bytes changed, put in or left out, and opcodes that are none
+/// between them; feeds may be refused.
 pub fn mutated(duo: &mut Duo, random: &mut Random) {
     duo.scenario("mutated stream");
     let ring = open_ring(duo, random);
     let mut units = Units::new(scatter_registers(duo, random));
     for _ in 0..random.between(1, 20) {
-        units.add(random);
+        if random.once_in(12) {
+            units.units.push(vec![bad_opcode(random)]);
+        } else {
+            units.add(random);
+        }
     }
     let mut bytes = units.bytes();
     for _ in 0..random.between(1, 6) {
@@ -117,7 +122,7 @@ pub fn feeds(duo: &mut Duo, random: &mut Random) {
             _ => random.below(room + 1),
         };
         let bytes: Vec<u8> = (0..length)
-            .map(|_| random.pick(&[0x00, 0x48, 0x68]))
+            .map(|_| random.pick(&[0x00, 0x44, 0x48]))
             .collect();
         duo.feed(&bytes);
         if length <= room {

@@ -1,5 +1,6 @@
-//! Every row of the tables once: CP addresses, units, arrays, attributes,
-//! textures, colours, and a merge of patches that name the same bits.
+//! Every row of the tables once: CP addresses, units, commands, arrays,
+//! attributes, normals, textures, colours, and a merge of patches that name the
+//! same bits.
 
 use crate::call::Patch;
 use crate::duo::Duo;
@@ -10,9 +11,11 @@ pub fn every_table_row(duo: &mut Duo) {
     duo.scenario("every row of the tables");
     cp_addresses(duo);
     units(duo);
+    commands(duo);
     limits(duo);
     arrays(duo);
     attributes(duo);
+    normals(duo);
     textures(duo);
     colours(duo);
     let a = Patch::of(&[(0x41, 0x00_FFFF, 0x00_5A5A)]);
@@ -40,10 +43,21 @@ fn cp_addresses(duo: &mut Duo) {
 /// Units that no other part of the fixed calls has.
 fn units(duo: &mut Duo) {
     good_bench(duo);
-    duo.feed(&[0x40, 1, 2, 3, 4, 5, 6, 7, 8, 0x00, 0x48, 0x68, 0x80, 0, 1]);
+    duo.feed(&[0x40, 1, 2, 3, 4, 5, 6, 7, 8, 0x00, 0x48, 0x44, 0x80, 0, 1]);
     duo.feed(&[9, 9]);
     for _ in 0..6 {
         duo.step();
+    }
+}
+
+/// Each kind of command, written.
+fn commands(duo: &mut Duo) {
+    for kind in [
+        0x00, 0x08, 0x10, 0x20, 0x28, 0x30, 0x38, 0x40, 0x44, 0x48, 0x61, 0x80,
+    ] {
+        // An XF load's one word, and a CP address that is listed.
+        let a = if kind == 0x08 { 0x30 } else { 1 };
+        duo.write_command([kind, a, 5, 7, 9], &[0x1234_5678], 9);
     }
 }
 
@@ -76,6 +90,22 @@ fn attributes(duo: &mut Duo) {
         for attribute in 0..21 {
             duo.decode(&format, attribute, &vertex[..length]);
             duo.raw_words(&format, attribute, &vertex[..length]);
+        }
+    }
+}
+
+/// Normals of three components and of nine in every format, bit 30 clear and
+/// set.
+fn normals(duo: &mut Duo) {
+    let vertex: Vec<u8> = (0..38).map(|at: u8| at.wrapping_mul(0x35)).collect();
+    for (number, bytes) in [(0, 1), (1, 1), (2, 2), (3, 2), (4, 4)] {
+        for (nine, components) in [(0, 3), (1 << 9, 9)] {
+            for bit_30 in [0, 1 << 30] {
+                let format = [0xA00, 0, nine | number << 10 | bit_30, 0, 0];
+                let vertex = &vertex[..2 + components * bytes];
+                duo.decode(&format, 10, vertex);
+                duo.raw_words(&format, 10, vertex);
+            }
         }
     }
 }

@@ -1,7 +1,7 @@
 //! Layouts, attributes and raw words.
 
 use crate::duo::Duo;
-use crate::formats::{any_format, length_of, vertex_bytes};
+use crate::formats::{any_format, format_with_normal, length_of, vertex_bytes};
 use crate::random::Random;
 
 /// With right and wrong lengths, and attribute numbers that are none.
@@ -27,5 +27,23 @@ pub fn vertices(duo: &mut Duo, random: &mut Random) {
         let attribute = random.below(22);
         duo.decode(&format, attribute, &vertex);
         duo.raw_words(&format, attribute, &vertex);
+    }
+}
+
+/// Direct normals of every format, three components and nine, the same bytes
+/// with bit 30 clear and set.
+pub fn normals(duo: &mut Duo, random: &mut Random) {
+    duo.scenario("normals");
+    for _ in 0..random.between(2, 8) {
+        let mut format = format_with_normal(random);
+        let Some(length) = length_of(&format) else {
+            continue;
+        };
+        let vertex = vertex_bytes(random, length);
+        for _ in 0..2 {
+            format[2] ^= 1 << 30;
+            duo.decode(&format, 10, &vertex);
+            duo.raw_words(&format, 10, &vertex);
+        }
     }
 }

@@ -44,9 +44,11 @@ fn take(duo: &mut Duo, random: &mut Random) {
         1 => {
             let length = random.below(80) as usize;
             let mut bytes = random.bytes(length);
-            // A first byte that means something, more often than not.
+            // A first byte that means something, or did, more often than not.
             if let Some(first) = bytes.first_mut() {
-                *first = random.pick(&[0x08, 0x10, 0x20, 0x40, 0x61, 0x80, 0x93, 0x48, *first]);
+                *first = random.pick(&[
+                    0x08, 0x10, 0x20, 0x40, 0x44, 0x48, 0x61, 0x68, 0x80, 0x93, *first,
+                ]);
             }
             duo.feed(&bytes);
         }

@@ -65,7 +65,7 @@ fn any_command(random: &mut Random) -> Written {
     // What the kind does not name is by chance.
     let [c, d] = random.array();
     let (command, length) = match random.below(10) {
-        0 => ([random.pick(&[0x00, 0x48, 0x68]), number, number, c, d], 1),
+        0 => ([random.pick(&[0x00, 0x44, 0x48]), number, number, c, d], 1),
         1 => ([none(random), number, number, c, d], 1),
         2 => ([0x08, cp_address(random), number, c, d], 6),
         3 | 4 => return xf_command(random),
@@ -92,8 +92,12 @@ fn any_command(random: &mut Random) -> Written {
     }
 }
 
-/// A vertex, or a kind that is none.
+/// A vertex, or a kind that is none: often 68, which was one until document 02's
+/// L2.
 fn none(random: &mut Random) -> u32 {
+    if random.once_in(4) {
+        return 0x68;
+    }
     random.pick(&[
         0x01,
         0x02,
@@ -102,7 +106,9 @@ fn none(random: &mut Random) -> u32 {
         0xBF,
         0x100,
         0x101,
+        0x144,
         0x161,
+        0x168,
         0x1_0000,
         0x8000_0000,
         u32::MAX,

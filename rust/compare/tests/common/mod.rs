@@ -67,13 +67,50 @@ faults! {
     MaskRegisterLast,
     MergeOfFirstWithin,
     MergedNumberOfA,
+    NormalU8Of6Bits,
+    NormalS8Of7Bits,
+    NormalU16Of14Bits,
+    NormalS16Of15Bits,
+    NormalUnsignedAsSigned,
+    NormalFractionByBit30,
+    NormalBytesByBit30,
+    NormalOfThreeWhole,
+    NormalOfNineWhole,
+    NormalF32Scaled,
+    PositionLikeNormal,
+    OldMetricsAccepted,
+    OldMetricsAcceptedByRun,
+    MetricsRefused,
+    MetricsOfTwoBytes,
+    MetricsToldAsOld,
+    OldMetricsWritten,
+    OldMetricsToWriteGives6,
+    MetricsWrittenAsOld,
 }
 
 const VERTEX: u32 = 0x01;
 const LOAD_XF: u32 = 0x10;
+const METRICS: u32 = 0x44;
+/// The metrics opcode until document 02's L2.
+const OLD_METRICS: u8 = 0x68;
 const LOAD_BP: u32 = 0x61;
+/// What a position and a normal decode to.
+const POSITION: u32 = 5;
+const NORMAL: u32 = 7;
+const NORMAL_OF_NINE: u32 = 8;
+/// Component formats.
+const U8: usize = 0;
+const S8: usize = 1;
+const U16: usize = 2;
+const S16: usize = 3;
+const F32: usize = 4;
+/// The fraction bits of a normal, by component format.
+const FRACTIONS: [i32; 5] = [7, 6, 15, 14, 0];
 const MASK_REGISTER: u32 = 0xFE;
 const NAN: u32 = 0x7FC0_0000;
+const START: usize = 0;
+const END: usize = 1;
+const WRITE_POINTER: usize = 4;
 const READ_POINTER: usize = 5;
 const CONTROL: usize = 6;
 const OPEN: usize = 7;
@@ -83,6 +120,29 @@ pub struct Faulty(pub Fault);
 
 fn clear_draw(state: &mut StateWords) {
     state[OPEN + 1..=OPEN + 3].fill(0);
+}
+
+/// The format with a signed normal where it is an unsigned one, of as many bytes.
+fn signed_normal(format: &FormatWords) -> FormatWords {
+    let mut signed = *format;
+    if [U8, U16].contains(&((format[2] >> 10 & 7) as usize)) {
+        signed[2] |= 1 << 10;
+    }
+    signed
+}
+
+/// The byte at the read pointer of a ring that holds one.
+fn next_byte(state: &StateWords, ring: &[u8]) -> u8 {
+    ring[(state[READ_POINTER] - state[START]) as usize]
+}
+
+/// Takes one byte as a unit, or as the rest of one.
+fn take_byte(state: &mut StateWords) {
+    state[READ_POINTER] += 1;
+    if state[READ_POINTER] == state[END] {
+        state[READ_POINTER] = state[START];
+    }
+    clear_draw(state);
 }
 
 impl Faulty {
@@ -126,7 +186,38 @@ impl Faulty {
             }
             Fault::AddressWithoutIndex if kind & !0x18 == 0x20 => unit[4] = 0,
             Fault::XfWordBeforeIt if kind == LOAD_XF && b != 0 => xf[b as usize - 1] ^= 1,
+            Fault::MetricsToldAsOld if kind == METRICS => unit[0] = OLD_METRICS.into(),
             _ => {}
+        }
+    }
+
+    /// The fraction bits that an attribute has too many of, or below 0 too few.
+    fn more_bits(&self, format: &FormatWords, kind: u32) -> i32 {
+        let position = kind == POSITION;
+        let normal = [NORMAL, NORMAL_OF_NINE].contains(&kind);
+        let bit_30 = format[2] >> 30 & 1 == 1;
+        let component = (format[2] >> if position { 1 } else { 10 } & 7) as usize;
+        match (self.0, component) {
+            (Fault::NormalU8Of6Bits, U8) if normal => -1,
+            (Fault::NormalS8Of7Bits, S8) if normal => 1,
+            (Fault::NormalU16Of14Bits, U16) if normal => -1,
+            (Fault::NormalS16Of15Bits, S16) if normal => 1,
+            (Fault::NormalFractionByBit30, _) if normal && !bit_30 => -FRACTIONS[component],
+            (Fault::NormalBytesByBit30, U8 | S8) if normal && !bit_30 => -FRACTIONS[component],
+            (Fault::NormalOfThreeWhole, _) if kind == NORMAL => -FRACTIONS[component],
+            (Fault::NormalOfNineWhole, _) if kind == NORMAL_OF_NINE => -FRACTIONS[component],
+            (Fault::NormalF32Scaled, F32) if normal => 6,
+            (Fault::PositionLikeNormal, U8 | S8) if position && !bit_30 => FRACTIONS[component],
+            _ => 0,
+        }
+    }
+
+    fn spoil_fractions(&self, format: &FormatWords, values: &mut ValueWords) {
+        let bits = self.more_bits(format, values[0]);
+        if bits != 0 {
+            for value in &mut values[1..] {
+                *value = (f32::from_bits(*value) * 2f32.powi(-bits)).to_bits();
+            }
         }
     }
 }
@@ -162,12 +253,12 @@ impl Side for Faulty {
     }
 
     fn feed(&self, state: &mut StateWords, ring: &mut [u8], bytes: &[u8]) -> u32 {
-        let before = state[READ_POINTER - 1];
+        let before = state[WRITE_POINTER];
         let answer = Twin.feed(state, ring, bytes);
         match self.0 {
             Fault::DrawNormalisedByFeed if state[OPEN] == 0 => clear_draw(state),
             Fault::FeedStoresReadPointer if answer == DONE => state[READ_POINTER] = before,
-            Fault::FeedMovesWhenRefused if answer == 11 => state[READ_POINTER - 1] += 1,
+            Fault::FeedMovesWhenRefused if answer == 11 => state[WRITE_POINTER] += 1,
             _ => {}
         }
         answer
@@ -186,6 +277,7 @@ impl Side for Faulty {
             xf = &mut xf[..4184];
         }
         let stale = [state[8], state[9], state[10]];
+        let (was, told) = (*state, *unit);
         let mut seen = self.seen(state);
         let answer = Twin.step(&mut seen, ring, xf, vertex, unit, lacking);
         if answer == DONE {
@@ -202,6 +294,23 @@ impl Side for Faulty {
                 vertex[unit[5] as usize..].fill(0);
             }
             Fault::VertexCopiedByWaiting if answer == WAITING => vertex[0] ^= 1,
+            Fault::OldMetricsAccepted if answer == 6 && next_byte(state, ring) == OLD_METRICS => {
+                take_byte(state);
+                *unit = [METRICS, 0, 0, 0, 0, 1];
+                return DONE;
+            }
+            Fault::MetricsRefused if answer == DONE && unit[0] == METRICS => {
+                (*state, *unit) = (was, told);
+                return 6;
+            }
+            Fault::MetricsOfTwoBytes if answer == DONE && unit[0] == METRICS => {
+                if state[READ_POINTER] == state[WRITE_POINTER] {
+                    (*state, *unit, *lacking) = (was, told, 1);
+                    return WAITING;
+                }
+                take_byte(state);
+                unit[5] = 2;
+            }
             _ => {}
         }
         answer
@@ -233,6 +342,16 @@ impl Side for Faulty {
             Fault::DrawNormalisedByEmptyRun if report[0] == 0 && state[OPEN] == 0 => {
                 clear_draw(state);
             }
+            Fault::OldMetricsAcceptedByRun
+                if answer == 6 && next_byte(state, ring) == OLD_METRICS =>
+            {
+                take_byte(state);
+                let units = report[0] + 1;
+                let left = limit.min(65_535) - units;
+                let answer = self.run(state, ring, xf, vertex, left, report);
+                report[0] += units;
+                return answer;
+            }
             _ => {}
         }
         answer
@@ -263,7 +382,15 @@ impl Side for Faulty {
             Fault::AttributeModulo => attribute & 0xFF,
             _ => attribute,
         };
+        let mut format = format;
+        let signed = signed_normal(format);
+        if self.is(Fault::NormalUnsignedAsSigned) {
+            format = &signed;
+        }
         let answer = Twin.decode(format, attribute, vertex, values);
+        if answer == DONE {
+            self.spoil_fractions(format, values);
+        }
         if self.is(Fault::ValuesZeroed) && answer != DONE {
             *values = [0; 10];
         }
@@ -302,8 +429,11 @@ impl Side for Faulty {
         written: &mut u32,
     ) -> u32 {
         let mut command = *command;
-        if self.is(Fault::KindModulo) {
-            command[0] &= 0xFF;
+        let old_metrics = command[0] == OLD_METRICS.into();
+        match self.0 {
+            Fault::KindModulo => command[0] &= 0xFF,
+            Fault::OldMetricsWritten if old_metrics => command[0] = METRICS,
+            _ => {}
         }
         let mut lent = words;
         if self.is(Fault::LentWordsNotCounted) && command[0] == LOAD_XF {
@@ -316,6 +446,11 @@ impl Side for Faulty {
                 output[0] = command[0] as u8;
             }
             Fault::TailCleared if answer == DONE => output[*written as usize..].fill(0),
+            Fault::OldMetricsWritten if answer == DONE && old_metrics => output[0] = OLD_METRICS,
+            Fault::OldMetricsToWriteGives6 if answer == 18 && old_metrics => return 6,
+            Fault::MetricsWrittenAsOld if answer == DONE && command[0] == METRICS => {
+                output[0] = OLD_METRICS;
+            }
             _ => {}
         }
         answer

@@ -9,9 +9,10 @@ const LOAD_CP: u32 = 0x08;
 const LOAD_XF: u32 = 0x10;
 const LOAD_INDEXED: [u32; 4] = [0x20, 0x28, 0x30, 0x38];
 const CALL_LIST: u32 = 0x40;
+// Document 02's L2; 68, document 01's number, is no kind.
+const METRICS: u32 = 0x44;
 const INVALIDATE_CACHE: u32 = 0x48;
 const LOAD_BP: u32 = 0x61;
-const METRICS: u32 = 0x68;
 const DRAW: u32 = 0x80;
 
 /// The array of the first kind of indexed load.
