@@ -98,7 +98,7 @@ isIndexed op = ((eqb op 0x20 || eqb op 0x28) || eqb op 0x30) || eqb op 0x38
 abbrev pub isDraw : ℕ → Bool
 isDraw op = leb 0x80 op && ltb op 0xC0
 
--- the table of opcodes
+-- the table of opcodes; "Accept 44 without effect; 68 now gives refusal 6" (document 02, L2), where document 01 has 68
 unfoldable pub byOpcode : ℕ → List ℕ → ℕ → List ℕ → Found
 byOpcode op b n cp =
     cond (eqb op 0x00) (whole n 1 noOperation 0)

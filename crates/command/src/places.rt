@@ -1,6 +1,6 @@
 // Where each CP register stands among the 60.
 ghost use mathlib.Core.Path.{_≡_};
-ghost use Prim.Native.Nat.{_+_, _≤_};
+ghost use Prim.Native.Nat.{_+_};
 ghost use Rattle.command.specs.Places.{vcdPlace, vatPlace, basePlace, stridePlace, cpPlace, cpAccepted};
 
 pub const COUNT: usize = 60;

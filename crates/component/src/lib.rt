@@ -1,6 +1,6 @@
 // One component of a vertex attribute, as an exact single: document 01, "Vertex layout".
 ghost use mathlib.Core.Path.{_≡_};
-ghost use Prim.Native.Nat.{ℕ, _%_, _<_, _≤_};
+ghost use Prim.Native.Nat.{_%_, _<_, _≤_};
 ghost use lib.IntN.{pos};
 ghost use lib.Ieee.{binary32, ofBits};
 ghost use Rattle.component.specs.Component.{widthOf, signedOf, twoTo, Quotient, Decoded};

@@ -4,12 +4,11 @@ use mathlib.Core.Bool.{_&&_}
 use mathlib.Core.List.{List}
 use Prim.Native.Nat.{ℕ, zero, suc, _+_, _*_, _≤_}
 use native.Mathlib.Omega.{arith}
-use lib.Dec.{leb, ltb, eqb}
+use lib.Dec.{leb, eqb}
 use lib.ListN.{length, length-set, length-append, length-drop}
 use borrow.Author.Tests.{leb-true}
 use Rattle.laws.proofs.Cases.{cond-both}
 use Rattle.command.specs.Command.{kindOf, fieldOf}
-use Rattle.command.specs.Places.{cpCount, cpPlace}
 use Rattle.effect.specs.Effect.{storedXf, loadedXf, xfAfter, copied, vertexAfter}
 
 -- a list as long as another

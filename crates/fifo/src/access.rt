@@ -8,7 +8,6 @@ use crate::rules::gap;
 use crate::rules::valid;
 use refusal::Reason;
 ghost use mathlib.Core.Path.{_≡_};
-ghost use mathlib.Core.Bool.{true, false};
 ghost use Prim.Native.Nat.{_<_};
 ghost use lib.ListN.{getD, set};
 ghost use Rattle.fifo.specs.Window.{Valid, withWindow, withControl};

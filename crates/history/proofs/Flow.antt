@@ -1,25 +1,14 @@
 -- What a call does to the queue: the bytes that it accepts come to the end, and those of the units that it answers leave the front.
-use mathlib.Core.Path.{_≡_, refl, sym, ap, _∙_, subst}
-use mathlib.Core.Bool.{Bool, true, false, cond, _&&_, _||_}
-use mathlib.Core.Logic.{_⊎_, inl, inr, ⊎-elim}
-use mathlib.Core.List.{List, [], _∷_, _++_, append-nil, append-assoc}
-use Prim.Native.Nat.{ℕ, zero, suc, _+_, _-_, _/_, min, _<_, _≤_}
-use native.Mathlib.Nat.{add-zero, zero-add}
+use mathlib.Core.Path.{_≡_, refl, sym, ap, _∙_}
+use mathlib.Core.List.{List, [], _∷_}
+use Prim.Native.Nat.{ℕ, zero, suc, _+_, _-_, min, _≤_}
+use native.Mathlib.Nat.{add-zero}
 use native.Mathlib.Omega.{arith}
-use lib.Dec.{eqb, leb}
-use lib.ListN.{length, getD, set, take, drop, length-append, length-drop}
-use lib.Seq.{drop-drop, drop-append-le}
-use borrow.Author.Tests.{eqb-true, eqb-false, leb-true}
-use Rattle.laws.proofs.Cases.{cond-both, tested, order, and-left, and-right}
+use lib.ListN.{length, drop, length-drop}
+use lib.Seq.{drop-drop}
 use Rattle.command.specs.Command.{Found, unit, waiting, refused}
 use Rattle.command.specs.Look.{unlessRefused}
-use Rattle.fifo.specs.declared.Fifo.{Fifo}
-use Rattle.fifo.specs.declared.Window.{Window}
-use Rattle.fifo.specs.Window.{consume, countOf}
-use Rattle.queue.specs.Pending.{pending}
-use Rattle.fifo.specs.Registers.{words, wordAt, withHalf, isHigh, withRegister, stored, writable, written}
 use Rattle.queue.proofs.CursorLaws.{reads-pending}
-use Rattle.queue.proofs.FeedLaws.{pending-after}
 use Rattle.queue.proofs.Pending.{length-pending}
 use Rattle.processor.specs.State.{State}
 use Rattle.processor.specs.Gate.{gateOf}
@@ -28,7 +17,7 @@ use Rattle.processor.specs.Step as S
 use Rattle.running.specs.Run.{Taken, Ended, goneOn, steps, gated, runLimit, runOf}
 use Rattle.processor.proofs.Passing.{Passes, gate-passes}
 use Rattle.processor.proofs.Bridge.{unit-fits}
-use Rattle.history.specs.Calls.{World, Call, feed, step, run, write, read, queue, after, fed, answered, unitsOf, consumedBy, harmless, Harmless}
+use Rattle.history.specs.Calls.{after, answered, consumedBy}
 
 -- ---- a unit is answered only past the gate
 unless-unit : (r : ℕ) (x : Found) (c : List ℕ) (m n : ℕ) → unlessRefused r x ≡ unit c m n → (r ≡ 0) × (x ≡ unit c m n)

@@ -1,29 +1,24 @@
 -- "Answers other than waiting don't change when more bytes are fed": of a step, and of a run that ended by its limit or a refusal.
-use mathlib.Core.Path.{_≡_, refl, sym, ap, _∙_, subst}
-use mathlib.Core.Bool.{Bool, true, false}
-use mathlib.Core.Logic.{⊎-elim}
-use mathlib.Core.List.{List, [], _∷_, _++_}
+use mathlib.Core.Path.{_≡_, refl, sym, ap, _∙_}
+use mathlib.Core.List.{List, _∷_, _++_}
 use Prim.Native.Nat.{ℕ, zero, suc, _+_, min, _≤_}
 use native.Mathlib.Omega.{arith}
-use lib.ListN.{length, take, drop, length-append}
+use lib.ListN.{length, take, drop}
 use lib.Seq.{take-append-le, drop-append-le}
-use Rattle.laws.proofs.Cases.{tested}
 use Rattle.octets.proofs.Number.{Octets}
-use Rattle.command.specs.declared.Draw.{Draw}
 use Rattle.command.specs.Command.{Found, unit, waiting, refused}
-use Rattle.command.specs.Look.{unlessRefused, lookOf}
+use Rattle.command.specs.Look.{unlessRefused}
 use Rattle.command.proofs.Extends.{Settled}
 use Rattle.command.proofs.Prefix.{look-prefix}
-use Rattle.effect.specs.Effect.{cpAfter, bpAfter, xfAfter, vertexAfter, drawAfter}
-use Rattle.fifo.specs.Window.{consume, countOf}
+use Rattle.effect.specs.Effect.{cpAfter, bpAfter, drawAfter}
 use Rattle.queue.proofs.CursorLaws.{reads-pending}
 use Rattle.queue.proofs.Pending.{length-pending}
 use Rattle.processor.specs.State.{State}
 use Rattle.processor.specs.Gate.{gateOf}
 use Rattle.processor.specs.Step.{queueOf, lookAt, executed, stepFound, stepOf}
 use Rattle.processor.specs.Step as S
-use Rattle.running.specs.Run.{Taken, Ended, stopOf, goneOn, steps, gated, runLimit, runOf}
-use Rattle.processor.proofs.Passing.{Passes, gate-passes, passes-gate}
+use Rattle.running.specs.Run.{Taken, Ended, goneOn, steps, gated, runLimit, runOf}
+use Rattle.processor.proofs.Passing.{passes-gate}
 use Rattle.processor.proofs.Bridge.{unit-fits}
 use Rattle.processor.proofs.Valid.{step-passes}
 use Rattle.history.specs.More.{Longer, NotWaiting, SameRun}

@@ -4,3 +4,4 @@ pub mod Meanings
 pub mod Ignored
 pub mod Present
 pub mod Tables
+pub mod Normals

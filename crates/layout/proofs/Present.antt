@@ -11,7 +11,7 @@ use mathlib.Core.Logic.{⊎-elim}
 use Rattle.laws.proofs.Cases.{order}
 use Rattle.laws.proofs.Table.{at, both, both-left, both-right}
 use Rattle.layout.specs.declared.Descriptor.{Descriptor}
-use Rattle.layout.specs.Fields.{bitsAt, placeIn, modes, formats, modeOf, formatOf}
+use Rattle.layout.specs.Fields.{bitsAt, modes, formats, modeOf, formatOf}
 use Rattle.layout.specs.Sizes.{sizeOf, offsetOf, unknownAt, anyUnknown, NoneFrom}
 use Rattle.layout.proofs.Tests.{size-matrix, size-absent, unknown-absent}
 use Rattle.layout.proofs.Ignored.{low-bits, is-true}

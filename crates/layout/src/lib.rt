@@ -8,7 +8,7 @@ use refusal::Reason;
 ghost use mathlib.Core.Path.{_≡_};
 ghost use mathlib.Core.Bool.{cond};
 ghost use lib.Dec.{leb};
-ghost use Prim.Native.Nat.{ℕ, _<_, _≤_};
+ghost use Prim.Native.Nat.{_<_};
 ghost use lib.ListN.{getD};
 ghost use Rattle.layout.specs.Fields.{words, bitsAt, modeOf, countOf, formatOf, normalBits, fractionBits, fractionOf, indicesOf, fieldOf};
 ghost use Rattle.layout.specs.Sizes.{isColour, colourWidth, componentsOf, directOf, sizeOf};

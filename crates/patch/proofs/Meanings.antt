@@ -1,7 +1,6 @@
 -- The numbers of an answer determine it, so that the promises do.
 use mathlib.Core.Path.{_≡_, refl, ap}
 use native.Mathlib.Omega.{arith}
-use Rattle.refusal.specs.Number.{number}
 use Rattle.refusal.proofs.Positive.{number-some}
 use Rattle.refusal.proofs.Injective.{number-injective}
 use Rattle.patch.specs.declared.Checked.{Checked}

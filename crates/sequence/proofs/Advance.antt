@@ -1,22 +1,20 @@
 -- The history of a list of calls: the loads that were executed, and the bytes of those that are left.
-use mathlib.Core.Path.{_≡_, refl, sym, ap, _∙_, subst}
+use mathlib.Core.Path.{_≡_, refl, sym, ap, _∙_}
 use mathlib.Core.Logic.{_⊎_, inl, inr, ⊎-elim}
-use mathlib.Core.List.{List, [], _∷_, _++_, append-nil, append-assoc}
+use mathlib.Core.List.{List, [], _∷_, _++_, append-assoc}
 use Prim.Native.Nat.{ℕ, zero, suc, _+_, _^_, min, _<_}
 use native.Mathlib.Omega.{arith}
-use lib.ListN.{length, getD, drop, take, length-append}
+use lib.ListN.{length, take}
 use Rattle.command.specs.declared.Draw.the-variants.{Closed}
-use Rattle.command.specs.Command.{Found, unit, waiting, refused, kindOf, fieldOf, loadBp}
+use Rattle.command.specs.Command.{Found, unit, waiting, refused, loadBp}
 use Rattle.command.specs.Look.{unlessRefused, lookOf}
 use Rattle.command.proofs.Ranges.{Ranged}
-use Rattle.effect.specs.Effect.{bpAfter}
 use Rattle.queue.proofs.CursorLaws.{reads-pending}
 use Rattle.processor.specs.State.{State}
-use Rattle.processor.specs.Gate.{gateOf}
 use Rattle.processor.specs.Step.{queueOf, lookAt, executed, stepFound, stepOf}
 use Rattle.processor.specs.Step as S
-use Rattle.running.specs.Run.{Ended, goneOn, steps, gated, runLimit, runOf}
-use Rattle.processor.proofs.Passing.{Passes, gate-passes, passes-gate}
+use Rattle.running.specs.Run.{Ended, goneOn, steps, runLimit, runOf}
+use Rattle.processor.proofs.Passing.{Passes, passes-gate}
 use Rattle.processor.proofs.Bridge.{unit-fits}
 use Rattle.processor.proofs.Valid.{executed-passes}
 use Rattle.patch.specs.Commands.{bytesOfCommands, bpAfterAll}

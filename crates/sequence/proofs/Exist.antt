@@ -1,26 +1,26 @@
 -- The premises of demand 3 can be met: from every start, for every list of accepted patches, some list of calls delivers them.
-use mathlib.Core.Path.{_≡_, refl, sym, ap, _∙_, subst}
-use mathlib.Core.Bool.{true, cond}
+use mathlib.Core.Path.{_≡_, refl, sym, ap, _∙_}
+use mathlib.Core.Bool.{true}
 use mathlib.Core.List.{List, [], _∷_, _++_, append-nil}
-use Prim.Native.Nat.{ℕ, _+_, _<_, _≤_}
+use Prim.Native.Nat.{ℕ, _+_, _≤_}
 use native.Mathlib.Omega.{arith}
 use lib.ListN.{length}
 use Rattle.command.specs.declared.Draw.the-variants.{Closed}
 use Rattle.writer.specs.Write.{commandBytes}
-use Rattle.fifo.specs.Window.{countOf, sizeOf}
+use Rattle.fifo.specs.Window.{countOf}
 use Rattle.queue.specs.Feeding.{accepted, bytesAccepted}
-use Rattle.queue.proofs.FeedLaws.{Fits, fits-accepted}
+use Rattle.queue.proofs.FeedLaws.{fits-accepted}
 use Rattle.queue.proofs.Pending.{length-pending}
 use Rattle.processor.proofs.Passing.{Passes, gate-passes, passes-gate}
-use Rattle.history.specs.Calls.{World, Call, feed, step, queue, after, fed, afterAll, fedAll}
+use Rattle.history.specs.Calls.{World, feed, step, queue, after, fed, afterAll, fedAll}
 use Rattle.history.proofs.Fed.{feed-longer}
 use Rattle.patch.specs.Patch.{Patch, AllAccepted}
-use Rattle.patch.specs.Commands.{commandsOfAll, bytesOfCommands, bytesOfPatches}
+use Rattle.patch.specs.Commands.{commandsOfAll, bytesOfCommands}
 use Rattle.patch.specs.Stream.{IsLoad, AllLoads, Begins}
 use Rattle.patch.proofs.Stream.{five-bytes, look-whole, patches-loads, patches-bytes}
 use Rattle.sequence.specs.Promise.{Start, AllListed, Delivers}
 use Rattle.sequence.specs.Exist.{callsOf}
-use Rattle.sequence.proofs.Advance.{Advance, Ahead, advance-whole}
+use Rattle.sequence.proofs.Advance.{Ahead, advance-whole}
 
 -- a world whose queue is empty, with no draw open, that passes 1 to 5
 record Idle (w : World) : Type 0 where

@@ -1,29 +1,26 @@
 -- Demand 3, over the calls' own definitions.
-use mathlib.Core.Path.{_≡_, refl, sym, ap, _∙_, subst}
+use mathlib.Core.Path.{_≡_, refl, sym, ap, _∙_}
 use mathlib.Core.List.{List, [], _∷_, _++_, append-nil, append-assoc}
 use mathlib.Core.Logic.{_↔_}
-use Prim.Native.Nat.{ℕ, _+_, _^_, _<_, _≤_}
+use Prim.Native.Nat.{ℕ, _+_, _^_, _<_}
 use native.Mathlib.Omega.{arith}
 use lib.Dec.{lit<}
-use lib.ListN.{length, getD, length-append}
-use Rattle.command.specs.declared.Draw.the-variants.{Closed}
+use lib.ListN.{length, length-append}
 use Rattle.laws.proofs.Cases.{cond-both}
 use Rattle.writer.specs.Write.{commandBytes}
 use Rattle.fifo.specs.declared.Fifo.{Fifo}
 use Rattle.fifo.specs.Registers.{stored, writable, written}
-use Rattle.queue.proofs.FeedLaws.{pending-after}
-use Rattle.processor.specs.State.{State}
 use Rattle.processor.specs.Gate.{bpFits}
 use Rattle.processor.proofs.Below.{below-at}
 use Rattle.processor.proofs.Passing.{Passes, gate-passes, passes-gate}
 use Rattle.history.specs.Calls.{World, Call, feed, step, run, write, read, queue, after, fed, afterAll, fedAll}
 use Rattle.history.proofs.Fed.{feed-longer}
-use Rattle.patch.specs.Patch.{Patch, bpCount, IsAccepted, AllAccepted, appliedTo, mergedOf, mergedAll}
+use Rattle.patch.specs.Patch.{Patch, mergedAll}
 use Rattle.patch.specs.Registers.{Open, Agree}
-use Rattle.patch.specs.Commands.{commandsOfAll, bytesOfCommands, bytesOfPatches, bpAfterAll}
-use Rattle.patch.specs.Stream.{IsLoad, AllLoads}
+use Rattle.patch.specs.Commands.{commandsOfAll, bytesOfCommands, bpAfterAll}
+use Rattle.patch.specs.Stream.{AllLoads}
 use Rattle.patch.proofs.Stream.{five-bytes, patches-loads, patches-bytes}
-use Rattle.patch.proofs.Execution.{after-append, executed-all, merged-swap}
+use Rattle.patch.proofs.Execution.{executed-all, merged-swap}
 use Rattle.sequence.specs.Promise.{Start, Listed, AllListed, Delivers, SameRegisters, RulesGive}
 use Rattle.sequence.proofs.Advance.{Advance, Ahead, advance-none, advance-same, advance-ahead, advance-then, advance-step, advance-run}
 

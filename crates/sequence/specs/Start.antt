@@ -1,5 +1,4 @@
 -- A world that demand 3 may begin with: the fresh registers, a window of 256 bytes, reading allowed, and lent memory of zeros.
-use mathlib.Core.List.{List}
 use lib.ListN.{replicate}
 use Rattle.command.specs.Look.{xfCount}
 use Rattle.fifo.specs.declared.Fifo.{Fifo}

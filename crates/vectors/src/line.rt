@@ -68,21 +68,8 @@ fn hex_digit(n: u32) -> u8 {
     55 + (n % 16) as u8
 }
 
-// A vector's name and the low 16 bits of its result in hexadecimal.
-pub fn write_hex(name: &[u8], n: u32) {
-    let digits = [
-        hex_digit(n / 4096),
-        hex_digit(n / 256),
-        hex_digit(n / 16),
-        hex_digit(n),
-    ];
-    io::write_all(STDOUT_FILENO, name);
-    io::write_all(STDOUT_FILENO, &digits);
-    io::write_all(STDOUT_FILENO, b"\n");
-}
-
 // A vector's name and its result in hexadecimal.
-pub fn write_word(name: &[u8], n: u32) {
+pub fn write_hex(name: &[u8], n: u32) {
     let digits = [
         hex_digit(n / 0x1000_0000),
         hex_digit(n / 0x100_0000),

@@ -27,7 +27,7 @@ fn component(vat0: u32, vertex: &[u8], i: usize) -> u32 {
 
 // The first component of a normal of three.
 fn write(name: &[u8], vat0: u32, vertex: &[u8]) {
-    line::write_word(name, component(vat0, vertex, 0));
+    line::write_hex(name, component(vat0, vertex, 0));
 }
 
 // "s8 has 6 bits, s16 has 14; for unsigned ones use 7 and 15. They apply whatever bit 30 says, and f32 is untouched."
@@ -51,7 +51,7 @@ pub fn fractions() {
 
 // The same in the ninth component, and a single that is as it stands.
 pub fn others() {
-    line::write_word(
+    line::write_hex(
         b"s8 normal of nine components, the last 40: ",
         component(0x600, &[0, 0, 0, 0, 0, 0, 0, 0, 0, 0, 0x40], 8),
     );

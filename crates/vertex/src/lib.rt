@@ -5,7 +5,7 @@ use layout::Descriptor;
 use layout::LayoutAnswer;
 use refusal::Reason;
 ghost use mathlib.Core.Path.{_≡_};
-ghost use Prim.Native.Nat.{ℕ, _<_, _≤_};
+ghost use Prim.Native.Nat.{_<_, _≤_};
 ghost use Rattle.vertex.specs.Attributes.{componentAt, tripleAt, positionAt, componentList, directList, indexList, attributeList};
 ghost use Rattle.vertex.specs.Answers.{told, located, locationOf, Decodes, RawIs};
 

@@ -1,5 +1,5 @@
 -- "Worked numbers": the starred ones as one table. One computed test compares what the definitions give with what document 01 says,
--- and for the normals document 02.
+-- and for what document 02 corrects what that says.
 -- A further row is added to `rows`, and the definitions that it opens to the lines under `worked`.
 use mathlib.Core.Path.{_≡_, refl, ap, _∙_}
 use mathlib.Core.Bool.{cond}
@@ -16,6 +16,9 @@ use Rattle.layout.specs.Sizes.{directOf, sizeOf, offsetOf, unknownAt, anyUnknow
 use Rattle.layout.specs.Answers.{refusalOf, acceptedOf, lengthOf}
 use Rattle.vertex.specs.Attributes.{rawAt, componentAt, paddedList, componentList, directList, attributeList}
 use Rattle.vertex.specs.Answers.{refusalAt, decodingOf}
+use Rattle.command.specs.Command.{Found, unit, waiting, refused}
+use Rattle.command.specs.declared.Draw.the-variants.{Closed}
+use Rattle.command.specs.Look.{whole, byOpcode, lookOf}
 use Rattle.effect.specs.Effect.{masked, storedBp, loadedBp}
 use Rattle.writer.specs.Write.{headOf, wordsOf, wordBytes, commandBytes}
 use Rattle.patch.specs.Patch.{Patch, patchOf, bpCount, mergedOf}
@@ -53,6 +56,15 @@ abbrev normalPart : ℕ → ℕ → ℕ → List ℕ → ℕ → ℕ
 normalPart count format bit30 bytes i =
     getD (decodingOf (named 0xA00 (count * 2 ^ 9 + format * 2 ^ 10 + bit30 * 2 ^ 30)) 10 (0 ∷ 0 ∷ bytes)) (2 + i) 0
 
+-- what a byte alone is, no draw being open: the bytes of its unit, 1000 and the bytes lacking, or 2000 and the refusal's number
+abbrev told : Found → ℕ
+told (unit c m n) = n
+told (waiting k) = 1000 + k
+told (refused r) = 2000 + r
+
+abbrev aloneByte : ℕ → ℕ
+aloneByte op = told (lookOf (op ∷ []) 1 (replicate 60 0) Closed)
+
 -- BP registers that are zero but for one
 abbrev only : ℕ → ℕ → List ℕ
 only r n = set (replicate bpCount 0) r n
@@ -70,10 +82,10 @@ holding n mask = set (set (replicate 256 0) 0x41 n) 0xFE mask
 pub data Row : Type 0 where
   row : ℕ → ℕ → Row
 
--- document 02, L2, in whole numbers: with 6, 14, 7 and 15 fraction bits 40, 4000, 80 and 8000 (hex) are 1.0; bit 30 clear and set give
--- the same; f32 is untouched; the ninth component of a normal of nine
-unfoldable pub normals : List Row
-normals =
+-- document 02, L2: with 6, 14, 7 and 15 fraction bits 40, 4000, 80 and 8000 (hex) are 1.0; bit 30 clear and set give the same; f32 is
+-- untouched; the ninth component of a normal of nine; 44 alone is a unit of one byte, and 68 gives 6
+unfoldable pub corrected : List Row
+corrected =
     row (normalPart 0 1 0 (0x40 ∷ 0 ∷ 0 ∷ []) 0) 0x3F800000
     ∷ row (normalPart 0 1 1 (0x40 ∷ 0 ∷ 0 ∷ []) 0) 0x3F800000
     ∷ row (normalPart 0 1 0 (0x80 ∷ 0 ∷ 0 ∷ []) 0) 0xC0000000
@@ -83,6 +95,8 @@ normals =
     ∷ row (normalPart 0 2 0 (0x80 ∷ 0 ∷ 0 ∷ 0 ∷ 0 ∷ 0 ∷ []) 0) 0x3F800000
     ∷ row (normalPart 0 4 0 (0x3F ∷ 0x80 ∷ 0 ∷ 0 ∷ 0 ∷ 0 ∷ 0 ∷ 0 ∷ 0 ∷ 0 ∷ 0 ∷ 0 ∷ []) 0) 0x3F800000
     ∷ row (normalPart 1 1 0 (0 ∷ 0 ∷ 0 ∷ 0 ∷ 0 ∷ 0 ∷ 0 ∷ 0 ∷ 0x40 ∷ []) 8) 0x3F800000
+    ∷ row (aloneByte 0x44) 1
+    ∷ row (aloneByte 0x68) 2006
     ∷ []
 
 -- the table, in document 01's order
@@ -102,7 +116,7 @@ rows =
     ∷ row (first 2 16 0 (0xFF ∷ 0xFF ∷ 0 ∷ 0 ∷ [])) 0x3F7FFF00
     ∷ row (first 3 31 0 (0xFF ∷ 0xFF ∷ 0 ∷ 0 ∷ [])) 0xB0000000
     ∷ row (first 0 3 0 (8 ∷ 0 ∷ [])) 0x41000000
-    ∷ normals
+    ∷ corrected
 
 -- the left and the right numbers of a table
 unfoldable pub given : List Row → List ℕ
@@ -114,10 +128,10 @@ said [] = []
 said (row a b ∷ l) = b ∷ said l
 
 pub worked : given rows ≡ said rows
-unfolding rows normals given said bitsAt modes counts formats shifts modeOf countOf formatOf fractionBits fractionOf indicesOf
+unfolding rows corrected given said bitsAt modes counts formats shifts modeOf countOf formatOf fractionBits fractionOf indicesOf
     directOf sizeOf offsetOf unknownAt anyUnknown refusalOf lengthOf
     refusalAt attributeList directList componentList paddedList componentAt rawAt bigEndian componentOf upTo round toBits ofBits
-    sizeLimit validBy countIn countAnswer masked storedBp loadedBp
+    sizeLimit validBy countIn countAnswer whole byOpcode lookOf masked storedBp loadedBp
 worked = refl
 
 -- ---- the two patches of "Sheets and the writer"
