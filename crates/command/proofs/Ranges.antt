@@ -25,7 +25,7 @@ differ a b f e = absurd (eqb-false a b f e)
 
 -- a command of another kind
 ranged : (kind : ℕ) (fields : List ℕ) → eqb kind 0x61 ≡ false → eqb kind 0x80 ≡ false → Ranged (kind ∷ fields)
-ranged kind fields p q = record { bp = differ kind 0x61 p; head = differ kind 0x80 q }
+ranged kind fields p q = record { bp = differ kind 0x61 p; head = differ kind 0x80 q; count = differ kind 0x80 q }
 
 of-whole : (n length : ℕ) (c : List ℕ) (m : ℕ) → Ranged c → Ranges (whole n length c m)
 unfolding whole
@@ -36,21 +36,21 @@ of-other : (n length kind : ℕ) (fields : List ℕ) (m : ℕ) → eqb kind 0x61
     → Ranges (whole n length (kind ∷ fields) m)
 of-other n length kind fields m p q = of-whole n length (kind ∷ fields) m (ranged kind fields p q)
 
-of-unless : (r : ℕ) (x : Found) → Ranges x → Ranges (unlessRefused r x)
+pub of-unless : (r : ℕ) (x : Found) → Ranges x → Ranges (unlessRefused r x)
 of-unless zero x h = h
 of-unless (suc r) x h = tt
 
 module _ (b : List ℕ) (o : Octets b) (n : ℕ) (cp : List ℕ) where
   of-bp : Ranges (lookBp b n)
   unfolding lookBp
-  of-bp = of-whole n 5 (loadBp (getD b 1 0) (bigEndian b 2 3)) 0 (record { bp = λ _. big-lt b 2 o 3; head = differ 0x61 0x80 refl })
+  of-bp = of-whole n 5 (loadBp (getD b 1 0) (bigEndian b 2 3)) 0 (record { bp = λ _. big-lt b 2 o 3; head = differ 0x61 0x80 refl; count = differ 0x61 0x80 refl })
 
   of-head : (op : ℕ) → Ranges (lookHead op b n cp)
   unfolding lookHead
   of-head op =
       of-unless (refusalOf (descriptorOf cp (op % 8))) _
       (of-whole n 3 (drawHead (op / 8 % 8) (op % 8) (bigEndian b 1 2)) 0
-      (record { bp = differ 0x80 0x61 refl; head = λ _. (omega arith, omega arith) }))
+      (record { bp = differ 0x80 0x61 refl; head = λ _. (omega arith, omega arith); count = λ _. big-lt b 1 o 2 }))
 
   of-opcode : (op : ℕ) → Ranges (byOpcode op b n cp)
   unfolding byOpcode lookCp lookXf lookCall lookIndexed

@@ -1,19 +1,33 @@
 -- No effect changes the length of what is lent.
-use mathlib.Core.Path.{_≡_, refl}
+use mathlib.Core.Path.{_≡_, refl, _∙_}
 use mathlib.Core.Bool.{_&&_}
 use mathlib.Core.List.{List}
 use Prim.Native.Nat.{ℕ, zero, suc, _+_, _*_, _≤_}
 use native.Mathlib.Omega.{arith}
-use lib.Dec.{leb, eqb}
-use lib.ListN.{length, length-set, length-append, length-drop}
+use lib.Dec.{leb, ltb, eqb}
+use lib.ListN.{length, set, length-set, length-append, length-drop}
 use borrow.Author.Tests.{leb-true}
 use Rattle.laws.proofs.Cases.{cond-both}
 use Rattle.command.specs.Command.{kindOf, fieldOf}
-use Rattle.effect.specs.Effect.{storedXf, loadedXf, xfAfter, copied, vertexAfter}
+use Rattle.command.specs.Places.{cpCount, cpPlace}
+use Rattle.effect.specs.Effect.{maskPlace, loadedCp, cpAfter, storedBp, loadedBp, bpAfter, storedXf, loadedXf, xfAfter, copied, vertexAfter}
 
 -- a list as long as another
 abbrev AsLong : List ℕ → List ℕ → Type 0
 AsLong l m = length m ≡ length l
+
+pub length-cp : (c cp : List ℕ) → length (cpAfter c cp) ≡ length cp
+unfolding cpAfter loadedCp
+length-cp c cp =
+    cond-both (AsLong cp) (eqb (kindOf c) 0x08)
+    (λ _. cond-both (AsLong cp) (ltb (cpPlace (fieldOf c 1)) cpCount) (λ _. length-set cp _ _) (λ _. refl)) (λ _. refl)
+
+pub length-bp : (c bp : List ℕ) → length (bpAfter c bp) ≡ length bp
+unfolding bpAfter loadedBp storedBp
+length-bp c bp =
+    cond-both (AsLong bp) (eqb (kindOf c) 0x61)
+    (λ _. cond-both (AsLong bp) (eqb (fieldOf c 1) maskPlace) (λ _. length-set bp _ _) (λ _. length-set (set bp _ _) _ _ ∙ length-set bp _ _))
+    (λ _. refl)
 
 pub length-stored : (xf u : List ℕ) (a n : ℕ) → length (storedXf xf u a n) ≡ length xf
 unfolding storedXf

@@ -4,3 +4,4 @@ pub mod Wholes
 pub mod Follow
 pub mod Runs
 pub mod Meanings
+pub mod Invariant

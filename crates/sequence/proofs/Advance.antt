@@ -85,7 +85,7 @@ advance-then {s = s} v u =
 
 -- a load of 24 bits fits its register
 load-ranged : (register n : ℕ) → n < 2 ^ 24 → Ranged (loadBp register n)
-load-ranged register n h = record { bp = λ _. h; head = λ e. absurd (omega (arith, e)) }
+load-ranged register n h = record { bp = λ _. h; head = λ e. absurd (omega (arith, e)); count = λ e. absurd (omega (arith, e)) }
 
 module _ {ring : List ℕ} {s : State} {later : List ℕ} {left : List (List ℕ)} (a : Ahead ring s later left) where
   abbrev q : List ℕ

@@ -71,6 +71,16 @@ module _ (f : Fifo) (draw : Draw) where
       ∙ ap (λ (x : List ℕ). a ++ x) (append-nil bp')
       ∙ whole bp'
 
+-- the registers among 327 words
+module _ (l : List ℕ) (long : length l ≡ 327) where
+  pub cp-length : length (cpOf l) ≡ 60
+  unfolding cpOf
+  cp-length = length-take-le 60 (drop 11 l) (omega (arith, length-drop 11 l))
+
+  pub bp-length : length (bpOf l) ≡ 256
+  unfolding bpOf
+  bp-length = length-take-le 256 (drop 71 l) (omega (arith, length-drop 71 l))
+
 -- the words of the fifo and of the draw stored: the registers stay
 module _ (f : Fifo) (draw : Draw) (l : List ℕ) (long : length l ≡ 327) where
   parts : drop 11 l ≡ cpOf l ++ bpOf l
@@ -93,34 +103,26 @@ module _ (f : Fifo) (draw : Draw) (l : List ℕ) (long : length l ≡ 327) where
       ∙ put-middle (fifoWords f) (take 4 (drop 7 l)) (drawWords draw) (drop 11 l) 7 refl n
       ∙ ap (λ (x : List ℕ). fifoWords f ++ (drawWords draw ++ x)) parts
 
-  pub cp-length : length (cpOf l) ≡ 60
-  unfolding cpOf
-  cp-length = length-take-le 60 (drop 11 l) (omega (arith, length-drop 11 l))
-
-  pub bp-length : length (bpOf l) ≡ 256
-  unfolding bpOf
-  bp-length = length-take-le 256 (drop 71 l) (omega (arith, length-drop 71 l))
-
   -- the CP registers of a load, the BP registers of a load
   pub cp-saved : (cp bp : List ℕ) {once out : List ℕ} → length cp ≡ 60 → once ≡ wordsBy f (cpOf l) (bpOf l) draw → out ≡ put once 11 cp
       → out ≡ wordsAfterUnit l 0x08 f cp bp draw
   unfolding wordsAfterUnit
   cp-saved cp bp n e1 e2 =
-      e2 ∙ ap (λ (x : List ℕ). put x 11 cp) e1 ∙ put-cp f draw (cpOf l) cp (bpOf l) cp-length n
+      e2 ∙ ap (λ (x : List ℕ). put x 11 cp) e1 ∙ put-cp f draw (cpOf l) cp (bpOf l) (cp-length l long) n
 
   pub bp-saved : (cp bp : List ℕ) {once out : List ℕ} → length bp ≡ 256 → once ≡ wordsBy f (cpOf l) (bpOf l) draw → out ≡ put once 71 bp
       → out ≡ wordsAfterUnit l 0x61 f cp bp draw
   unfolding wordsAfterUnit
   bp-saved cp bp n e1 e2 =
-      e2 ∙ ap (λ (x : List ℕ). put x 71 bp) e1 ∙ put-bp f draw (cpOf l) (bpOf l) bp cp-length bp-length n
+      e2 ∙ ap (λ (x : List ℕ). put x 71 bp) e1 ∙ put-bp f draw (cpOf l) (bpOf l) bp (cp-length l long) (bp-length l long) n
 
   -- all of them
   pub all-saved : (cp bp : List ℕ) {once twice out : List ℕ} → length cp ≡ 60 → length bp ≡ 256 → once ≡ wordsBy f (cpOf l) (bpOf l) draw
       → twice ≡ put once 11 cp → out ≡ put twice 71 bp → out ≡ wordsBy f cp bp draw
   all-saved cp bp n m e1 e2 e3 =
       e3
-      ∙ ap (λ (x : List ℕ). put x 71 bp) (e2 ∙ ap (λ (x : List ℕ). put x 11 cp) e1 ∙ put-cp f draw (cpOf l) cp (bpOf l) cp-length n)
-      ∙ put-bp f draw cp (bpOf l) bp n bp-length m
+      ∙ ap (λ (x : List ℕ). put x 71 bp) (e2 ∙ ap (λ (x : List ℕ). put x 11 cp) e1 ∙ put-cp f draw (cpOf l) cp (bpOf l) (cp-length l long) n)
+      ∙ put-bp f draw cp (bpOf l) bp n (bp-length l long) m
 
 -- a command that loads no register of the two
 pub no-load : (c : Command) → OneOf (0 ∷ 1 ∷ 2 ∷ 4 ∷ 5 ∷ 6 ∷ 8 ∷ 9 ∷ []) (tagOf Commands.the-type c)
