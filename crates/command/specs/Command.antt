@@ -19,6 +19,7 @@ noOperation = 0x00 ∷ []
 abbrev pub invalidateCache : List ℕ
 invalidateCache = 0x48 ∷ []
 
+-- 44 by document 02, L2, where document 01 has 68
 abbrev pub metrics : List ℕ
 metrics = 0x44 ∷ []
 

@@ -2,3 +2,4 @@ pub mod Refusals
 pub mod Lending
 pub mod Windows
 pub mod Units
+pub mod Chained

@@ -143,7 +143,7 @@ none-gated : (r : ℕ) (s : State) (e : Ended) → (length (e .units) ≡ 0 → 
 none-gated zero s e h k = h k
 none-gated (suc r) s e h k = refl
 
-none-run : (ring : List ℕ) (limit : ℕ) (s : State) → length (runOf ring limit s .units) ≡ 0 → runOf ring limit s .state ≡ s
+pub none-run : (ring : List ℕ) (limit : ℕ) (s : State) → length (runOf ring limit s .units) ≡ 0 → runOf ring limit s .state ≡ s
 unfolding runOf
 none-run ring limit s h =
     none-gated (gateOf s (length ring)) s (steps ring (min limit runLimit) s) (none-steps ring (min limit runLimit) s) h

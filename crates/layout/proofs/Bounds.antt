@@ -46,7 +46,7 @@ normal-lt (suc (suc zero)) = lit< tt
 normal-lt (suc (suc (suc zero))) = lit< tt
 normal-lt (suc (suc (suc (suc n)))) = lit< tt
 
--- a shift has five bits
+-- a shift has five bits, and a normal's fraction bits fit them
 pub fraction-lt : (d : Descriptor) (k : ℕ) → fractionOf d k < 32
 unfolding fractionOf fractionBits
 fraction-lt d k =

@@ -57,7 +57,7 @@ unfoldable pub formatOf : Descriptor → ℕ → ℕ
 formatOf d k = bitsAt d (placeIn formats k) 8
 
 -- the fraction bits of a normal's components by their format (document 02, L2): "s8 has 6 bits, s16 has 14; for unsigned ones use 7 and
--- 15", "and f32 is untouched"
+-- 15", "and f32 is untouched"; formats above, which no accepted layout has, count as f32
 abbrev pub normalBits : ℕ → ℕ
 normalBits zero = 7
 normalBits (suc zero) = 6
@@ -65,8 +65,8 @@ normalBits (suc (suc zero)) = 15
 normalBits (suc (suc (suc zero))) = 14
 normalBits (suc (suc (suc (suc n)))) = 0
 
--- of attribute, format, bit 30 of group 0 and the VAT's shift: "The shift is 0 for 8-bit components where group 0 bit 30 is clear"
--- (document 01). For normals, where document 01 has 0, document 02 stands: fixed fractions, and "They apply whatever bit 30 says"
+-- of attribute, format, bit 30 of group 0 and the VAT's shift: fixed for a normal, "whatever bit 30 says" (document 02, L2, where
+-- document 01 has 0), and of others "The shift is 0 for 8-bit components where group 0 bit 30 is clear" (document 01)
 unfoldable pub fractionBits : ℕ → ℕ → ℕ → ℕ → ℕ
 fractionBits k format bit30 shift = cond (eqb k 10) (normalBits format) (cond (ltb format 2 && eqb bit30 0) 0 shift)
 

@@ -95,7 +95,7 @@ fn format(d: Descriptor, k: usize) -> u32
     bits(d, places::format_place(k), 8)
 }
 
-// The fraction bits of a normal's component.
+// The fraction bits of a normal's component, by its format (document 02, L2).
 fn normal_bits(format: u32) -> u32
     ensures { λ r. ⌜ r ≡ normalBits format ⌝ }
 {
@@ -108,7 +108,7 @@ fn normal_bits(format: u32) -> u32
     }
 }
 
-// The fraction bits of a component of attribute k: normals have their own, 8-bit components none where bit 30 is clear.
+// The fraction bits of a component of attribute k: a normal's are its own; of others 8-bit ones have none where bit 30 is clear.
 fn fraction_bits(k: usize, format: u32, bit30: u32, shift: u32) -> u32
     ensures { λ r. ⌜ r ≡ fractionBits k format bit30 shift ⌝ }
 {

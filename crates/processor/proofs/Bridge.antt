@@ -91,7 +91,7 @@ module _ (ring : List ℕ) (s : State) (ready : Ready (s .fifo) (length ring)) w
   draw-moved (waiting k) = refl
   draw-moved (refused r) = refl
 
-  -- what `take` leaves at the cursor of a ready fifo is the state after what was found
+  -- what `take_at` leaves at the cursor of a ready fifo is the state after what was found
   pub takes-after : {answer : StepAnswer} {cursor : Cursor} {draw : Draw} {cp bp xf buffer : List ℕ}
       → Takes (seen (opened (s .fifo)) ring (s .cp) (s .draw)) (opened (s .fifo)) ring (s .cp) (s .bp) (s .draw) (s .xf) (s .buffer) answer cursor draw cp bp xf buffer
       → TakesUnit ring s answer cursor draw cp bp xf buffer

@@ -1,4 +1,4 @@
--- What `take` leaves, by what was found.
+-- What `take_at` leaves, by what was found.
 use mathlib.Core.Path.{_≡_, refl, sym, subst}
 use mathlib.Core.List.{List}
 use Prim.Native.Nat.{ℕ, _≤_}

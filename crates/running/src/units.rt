@@ -1,4 +1,4 @@
-// The units of a run, taken one after the other.
+// The units of a run, until the limit, waiting or a refusal.
 use crate::Stop;
 use crate::loads;
 use crate::vertices;

@@ -1,4 +1,4 @@
-// The documents' numbers that are run and not proved: a line for each, its name and what came out. A module for each thing that is run.
+// Numbers of documents 01 and 02 that are run: a line for each, its name and what came out. A module for each thing that is run.
 mod commands;
 mod line;
 mod normals;

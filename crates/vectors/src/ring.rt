@@ -29,7 +29,7 @@ pub fn counted(fifo: Fifo) -> u32 {
 }
 
 // 0, or the refusal's number.
-pub fn answered(answer: Answer) -> u32 {
+fn answered(answer: Answer) -> u32 {
     match answer {
         Answer::Accepted => 0,
         Answer::Refused(reason) => refusal::number(reason) as u32,

@@ -164,8 +164,8 @@ fn draw_words(draw: Draw) -> [u32; 4]
 pub fn save_window(state: &mut [u32; 327], window: Window)
     ensures { λ _. ⌜ now (state .exit) ≡ fifoStored (now (state .entry)) (withWindow (fifoOf (now (state .entry))) window) ⌝ }
 {
-    let front = window_words(window);
-    store(state, 0, &front);
+    let window = window_words(window);
+    store(state, 0, &window);
 }
 
 // Writes the write pointer, word 4.

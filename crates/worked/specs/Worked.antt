@@ -1,5 +1,5 @@
--- "Worked numbers": the starred ones as one table. One computed test compares what the definitions give with what document 01 says,
--- and for what document 02 corrects what that says.
+-- "Worked numbers": the starred ones as one table. One computed test compares what the definitions give with what document 01 says, or
+-- document 02 where it corrects it.
 -- A further row is added to `rows`, and the definitions that it opens to the lines under `worked`.
 use mathlib.Core.Path.{_≡_, refl, ap, _∙_}
 use mathlib.Core.Bool.{cond}
@@ -56,14 +56,15 @@ abbrev normalPart : ℕ → ℕ → ℕ → List ℕ → ℕ → ℕ
 normalPart count format bit30 bytes i =
     getD (decodingOf (named 0xA00 (count * 2 ^ 9 + format * 2 ^ 10 + bit30 * 2 ^ 30)) 10 (0 ∷ 0 ∷ bytes)) (2 + i) 0
 
--- what a byte alone is, no draw being open: the bytes of its unit, 1000 and the bytes lacking, or 2000 and the refusal's number
-abbrev told : Found → ℕ
-told (unit c m n) = n
-told (waiting k) = 1000 + k
-told (refused r) = 2000 + r
+-- what was found as one number: the bytes of the unit, 1000 and the bytes lacking, or 2000 and the refusal's number
+abbrev foundNumber : Found → ℕ
+foundNumber (unit c m n) = n
+foundNumber (waiting k) = 1000 + k
+foundNumber (refused r) = 2000 + r
 
+-- what a byte alone is, no draw being open
 abbrev aloneByte : ℕ → ℕ
-aloneByte op = told (lookOf (op ∷ []) 1 (replicate 60 0) Closed)
+aloneByte op = foundNumber (lookOf (op ∷ []) 1 (replicate 60 0) Closed)
 
 -- BP registers that are zero but for one
 abbrev only : ℕ → ℕ → List ℕ
@@ -99,7 +100,7 @@ corrected =
     ∷ row (aloneByte 0x68) 2006
     ∷ []
 
--- the table, in document 01's order
+-- the table, in document 01's order, then what document 02 corrects
 unfoldable pub rows : List Row
 rows =
     row (getD (countAnswer wrapped) 1 0) 5

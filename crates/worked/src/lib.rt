@@ -1,1 +1,1 @@
-// No code: document 01's worked numbers, the starred ones, as one table. It stands in specs/Worked.antt.
+// No code: document 01's starred worked numbers, and what document 02 corrects, as one table. It stands in specs/Worked.antt.

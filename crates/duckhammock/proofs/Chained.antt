@@ -1,0 +1,90 @@
+-- The words and the memory after a call say the state after it.
+use mathlib.Core.Path.{_≡_, refl, sym, ap, _∙_}
+use mathlib.Core.Bool.{Bool, true, false, cond, false≢true}
+use mathlib.Core.List.{List, [], _∷_}
+use Prim.Native.Nat.{ℕ}
+use lib.Dec.{eqb}
+use lib.ListN.{length}
+use borrow.Author.Tests.{eqb-true}
+use Rattle.octets.specs.BigEndian.{Octets}
+use Rattle.command.specs.Command.{Found, unit, waiting, refused}
+use Rattle.fifo.specs.declared.Fifo.{Fifo}
+use Rattle.fifo.specs.Registers.{writable, writeAnswer, written}
+use Rattle.queue.specs.Feeding.{feedRefusal, accepted, fifoAfter, ringAfter}
+use Rattle.processor.specs.State.{State}
+use Rattle.processor.specs.Step.{after, stepFound, stepOf}
+use Rattle.running.specs.Run.{runOf}
+use Rattle.words.specs.State.{fifoOf, stateAt, fifoStored}
+use Rattle.words.proofs.Holding.{words-promises}
+use Rattle.encoding.specs.Told.{firstOf, stepNumber}
+use Rattle.duckhammock.specs.Calls.{WritesRegister, Feeds, Lent, lentOf, lentBy, Tells, Ends}
+use Rattle.duckhammock.specs.Promises.{withFifo, saidBy, CallsPromises}
+use Rattle.duckhammock.proofs.Units.{none-run}
+
+-- ---- a call that is not accepted leaves the fifo and the state
+
+write-kept : (f : Fifo) (offset value : ℕ) (b : Bool) → writable offset ≡ b → eqb (firstOf (writeAnswer offset)) 0 ≡ false
+    → written f offset value ≡ f
+unfolding written writeAnswer
+write-kept f offset value true w e = absurd (false≢true (sym e ∙ ap (λ (x : Bool). eqb (firstOf (cond x (0 ∷ []) (17 ∷ []))) 0) w))
+write-kept f offset value false w e = rw w
+
+feed-kept : (f : Fifo) (ring bytes : List ℕ) → eqb (feedRefusal f (length ring) (length bytes)) 0 ≡ false
+    → (fifoAfter f ring bytes ≡ f) × (ringAfter f ring bytes ≡ ring)
+unfolding accepted fifoAfter ringAfter
+feed-kept f ring bytes e = (rw e, rw e)
+
+step-kept : (ring : List ℕ) (s : State) (found : Found) → eqb (stepNumber found) 0 ≡ false → after ring s found ≡ s
+step-kept ring s (unit c m n) e = absurd (false≢true (sym e))
+step-kept ring s (waiting k) e = refl
+step-kept ring s (refused r) e = refl
+
+module _ (words xf vertex : List ℕ) where
+  -- a fifo that is stored, or is the one that was there
+  fifo-said : (b : Bool) (f : Fifo) {words' : List ℕ} → words' ≡ cond b (fifoStored words f) words → (b ≡ false → f ≡ fifoOf words)
+      → stateAt words' xf vertex ≡ withFifo words xf vertex f
+  fifo-said true f e h = ap (λ (l : List ℕ). stateAt l xf vertex) e ∙ words-promises .stored words xf vertex f
+  fifo-said false f e h = ap (λ (l : List ℕ). stateAt l xf vertex) e ∙ ap (withFifo words xf vertex) (sym (h refl))
+
+  write-said : (offset value r : ℕ) (words' : List ℕ) → WritesRegister words offset value r words'
+      → stateAt words' xf vertex ≡ withFifo words xf vertex (written (fifoOf words) offset value)
+  write-said offset value r words' h =
+      fifo-said (eqb r 0) (written (fifoOf words) offset value) (h .state-is)
+      (λ e. write-kept (fifoOf words) offset value (writable offset) refl (ap (λ (n : ℕ). eqb n 0) (sym (h .answer-is)) ∙ e))
+
+  module _ (ring bytes : List ℕ) (r : ℕ) (words' ring' : List ℕ) (h : Feeds words ring bytes r words' ring') where
+    kept : eqb r 0 ≡ false → (fifoAfter (fifoOf words) ring bytes ≡ fifoOf words) × (ringAfter (fifoOf words) ring bytes ≡ ring)
+    kept e = feed-kept (fifoOf words) ring bytes (ap (λ (n : ℕ). eqb n 0) (sym (h .answer-is)) ∙ e)
+
+    ring-fed : (b : Bool) → eqb r 0 ≡ b → ring' ≡ ringAfter (fifoOf words) ring bytes
+    ring-fed true e = rw e at (h .ring-is)
+    ring-fed false e = h .ring-is ∙ rw e (sym (kept e .1))
+
+    feed-said : (stateAt words' xf vertex ≡ withFifo words xf vertex (fifoAfter (fifoOf words) ring bytes))
+        × (ring' ≡ ringAfter (fifoOf words) ring bytes)
+    feed-said =
+        (fifo-said (eqb r 0) (fifoAfter (fifoOf words) ring bytes) (h .state-is) (λ e. kept e .0), ring-fed (eqb r 0) refl)
+
+  module _ (ring : List ℕ) (o : Octets ring) (long : length words ≡ 327) where
+    step-said : (b : Bool) {r : ℕ} {lent' : Lent} → eqb r 0 ≡ b → r ≡ stepNumber (stepFound ring (stateAt words xf vertex))
+        → lent' ≡ cond b (lentBy (stepOf ring (stateAt words xf vertex))) (lentOf words xf vertex)
+        → saidBy lent' ≡ stepOf ring (stateAt words xf vertex)
+    unfolding stepOf
+    step-said true b e l = ap saidBy l ∙ words-promises .stepped ring words xf vertex o long
+    step-said false b e l =
+        ap saidBy l ∙ sym (step-kept ring (stateAt words xf vertex) (stepFound ring (stateAt words xf vertex)) (ap (λ (n : ℕ). eqb n 0) (sym e) ∙ b))
+
+    run-said : (limit : ℕ) (b : Bool) {lent' : Lent} → eqb (length (runOf ring limit (stateAt words xf vertex) .units)) 0 ≡ b
+        → lent' ≡ cond b (lentOf words xf vertex) (lentBy (runOf ring limit (stateAt words xf vertex) .state))
+        → saidBy lent' ≡ runOf ring limit (stateAt words xf vertex) .state
+    run-said limit true b l = ap saidBy l ∙ sym (none-run ring limit (stateAt words xf vertex) (eqb-true _ 0 b))
+    run-said limit false b l = ap saidBy l ∙ words-promises .ran ring words xf vertex limit o long
+
+pub calls-promises : CallsPromises
+calls-promises = record {
+  written-is = write-said;
+  fed-is = feed-said;
+  stepped-is = λ ring words xf vertex unit lacking r lent' unit' lacking' o n h.
+      step-said words xf vertex ring o n (eqb r 0) refl (h .answer-is) (h .lent-is);
+  run-is = λ ring words xf vertex limit r lent' report' o n h. run-said words xf vertex ring o n limit _ refl (h .lent-is);
+}
