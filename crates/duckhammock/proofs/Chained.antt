@@ -17,7 +17,7 @@ use Rattle.running.specs.Run.{runOf}
 use Rattle.words.specs.State.{fifoOf, stateAt, fifoStored}
 use Rattle.words.proofs.Holding.{words-promises}
 use Rattle.encoding.specs.Told.{firstOf, stepNumber}
-use Rattle.duckhammock.specs.Calls.{WritesRegister, Feeds, Lent, lentOf, lentBy, Tells, Ends}
+use Rattle.duckhammock.specs.Calls.{WritesRegister, Feeds, Lent, lentOf, lentBy}
 use Rattle.duckhammock.specs.Promises.{withFifo, saidBy, CallsPromises}
 use Rattle.duckhammock.proofs.Units.{none-run}
 
@@ -72,7 +72,8 @@ module _ (words xf vertex : List ℕ) where
     unfolding stepOf
     step-said true b e l = ap saidBy l ∙ words-promises .stepped ring words xf vertex o long
     step-said false b e l =
-        ap saidBy l ∙ sym (step-kept ring (stateAt words xf vertex) (stepFound ring (stateAt words xf vertex)) (ap (λ (n : ℕ). eqb n 0) (sym e) ∙ b))
+        let s = stateAt words xf vertex in
+        ap saidBy l ∙ sym (step-kept ring s (stepFound ring s) (ap (λ (n : ℕ). eqb n 0) (sym e) ∙ b))
 
     run-said : (limit : ℕ) (b : Bool) {lent' : Lent} → eqb (length (runOf ring limit (stateAt words xf vertex) .units)) 0 ≡ b
         → lent' ≡ cond b (lentOf words xf vertex) (lentBy (runOf ring limit (stateAt words xf vertex) .state))

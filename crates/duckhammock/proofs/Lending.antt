@@ -65,7 +65,8 @@ module _ {d : Descriptor} {l : Layout} (h : Laid d l) (sizes offsets : List ℕ)
 -- ---- an attribute
 
 module _ {d : Descriptor} {k : ℕ} {vertex : List ℕ} {a : Answer} (h : Decodes d k vertex a) (values : List ℕ) where
-  pub decode-refused : (reason : Reason) {r : ℕ} → a ≡ decoded.Refused reason → r ≡ number reason → TellsAttribute d k vertex values r values
+  pub decode-refused : (reason : Reason) {r : ℕ} → a ≡ decoded.Refused reason → r ≡ number reason
+      → TellsAttribute d k vertex values r values
   decode-refused reason t e =
       record {
         answer-is = e ∙ ap (λ (x : Answer). firstOf (vertices.meaning x)) (sym t) ∙ ap firstOf (h .meaning-is);
@@ -119,7 +120,8 @@ counted refusal n count l {r} e m =
 
 pub puts : (refusal : ℕ) (bytes out out' : List ℕ) (w : Written) {count r count' : ℕ}
     → writer.meaning w ≡ cond (eqb refusal 0) (0 ∷ length bytes ∷ []) (refusal ∷ [])
-    → out' ≡ cond (eqb refusal 0) (writer.placed bytes out) out → CountsBytes w count r count' → PutsBytes refusal bytes out count r out' count'
+    → out' ≡ cond (eqb refusal 0) (writer.placed bytes out) out → CountsBytes w count r count'
+    → PutsBytes refusal bytes out count r out' count'
 puts refusal bytes out out' w {count} m o c =
     let a = c .answer-is ∙ ap firstOf m ∙ first-is refusal (length bytes ∷ []) in
     record {

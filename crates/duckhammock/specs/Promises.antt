@@ -1,5 +1,5 @@
--- What one call leaves is what the next one reads: the words and the memory after a call say the state after document 01's call, after refused
--- and waiting calls too. So what `history` and `sequence` promise of lists of calls holds of calls on words.
+-- What one call leaves is what the next one reads: the words and the memory after a call say the state after document 01's call, after
+-- refused and waiting calls too.
 use mathlib.Core.Path.{_≡_}
 use mathlib.Core.List.{List}
 use Prim.Native.Nat.{ℕ}

@@ -31,14 +31,6 @@ pub mode-matrix : (d : Descriptor) (k : ℕ) → k < 9 → modeOf d k ≤ 1
 unfolding modeOf
 mode-matrix d k h = rw (lt-ltb k 9 h) (omega (arith, bits-lt d (placeIn modes k) 2 (lit< tt)))
 
-pub count-lt : (d : Descriptor) (k : ℕ) → countOf d k < 2
-unfolding countOf
-count-lt d k = bits-lt d _ 2 (lit< tt)
-
-pub format-lt : (d : Descriptor) (k : ℕ) → formatOf d k < 8
-unfolding formatOf
-format-lt d k = bits-lt d _ 8 (lit< tt)
-
 pub normal-lt : (f : ℕ) → normalBits f < 32
 normal-lt zero = lit< tt
 normal-lt (suc zero) = lit< tt
@@ -165,11 +157,6 @@ fitting k = leb (largestSum k) 129
 pub offset-le : (d : Descriptor) (k : ℕ) → k < 22 → offsetOf d k ≤ 129
 unfolding fitting largestSum
 offset-le d k h = le-trans (offset-le-sum d k) (leb→le (largestSum k) 129 (at fitting 22 tt k h))
-
--- the sums are prefix sums: each attribute starts where the one before it ends
-pub offset-next : (d : Descriptor) (k : ℕ) → offsetOf d (suc k) ≡ offsetOf d k + sizeOf d k
-unfolding offsetOf
-offset-next d k = refl
 
 after : (d : Descriptor) (n k : ℕ) → k < n → offsetOf d (suc k) ≤ offsetOf d n
 unfolding offsetOf

@@ -79,7 +79,3 @@ unknown-present d k b z e = rw (ne-eqb (modeOf d k) 0 z, e)
 pub any-next : (d : Descriptor) (i : ℕ) (a b : Bool) → a ≡ anyUnknown d i → b ≡ unknownAt d i → a || b ≡ anyUnknown d (i + 1)
 unfolding anyUnknown
 any-next d i a b p q = rw add-one (ap (λ (x : Bool). x || b) p ∙ ap (λ (x : Bool). anyUnknown d i || x) q)
-
-pub any-none : (d : Descriptor) → false ≡ anyUnknown d 0
-unfolding anyUnknown
-any-none d = refl

@@ -10,7 +10,8 @@ ghost use mathlib.Core.Bool.{cond};
 ghost use lib.Dec.{leb};
 ghost use Prim.Native.Nat.{_<_};
 ghost use lib.ListN.{getD};
-ghost use Rattle.layout.specs.Fields.{words, bitsAt, modeOf, countOf, formatOf, normalBits, fractionBits, fractionOf, indicesOf, fieldOf};
+ghost use Rattle.layout.specs.Fields.{words, bitsAt, modeOf, countOf, formatOf, normalBits};
+ghost use Rattle.layout.specs.Fields.{fractionBits, fractionOf, indicesOf, fieldOf};
 ghost use Rattle.layout.specs.Sizes.{isColour, colourWidth, componentsOf, directOf, sizeOf};
 ghost use Rattle.layout.specs.Answers.{Laid, Filled, Emptied};
 

@@ -1,11 +1,11 @@
 -- Every state that 327 words say holds what its words can say, and holds it after every step and run.
-use mathlib.Core.Path.{_≡_, refl, sym, ap, _∙_}
-use mathlib.Core.Bool.{cond, _&&_}
+use mathlib.Core.Path.{_≡_, refl, ap, _∙_}
+use mathlib.Core.Bool.{_&&_}
 use mathlib.Core.List.{List}
 use Prim.Native.Nat.{ℕ, zero, suc, _-_, _^_, _<_}
 use native.Mathlib.Omega.{arith}
 use lib.Dec.{eqb, ltb, lit<}
-use lib.ListN.{length, getD, take, drop}
+use lib.ListN.{length, getD, take}
 use lib.Seq.{getD-drop, drop-drop}
 use borrow.Author.Tests.{eqb-true, ltb-true}
 use Rattle.laws.proofs.Cases.{cond-both, and-right}
@@ -23,8 +23,8 @@ use Rattle.processor.specs.Gate.{gateOf}
 use Rattle.processor.specs.Step.{queueOf, lookAt, executed, after, stepFound, stepOf}
 use Rattle.processor.proofs.Valid.{queue-octets}
 use Rattle.running.proofs.Invariant.{run-keeps}
-use Rattle.words.specs.State.{fifoOf, leftOf, drawOf, cpOf, bpOf, stateAt, fifoStored, freshWords, HoldsDraw, Holds}
-use Rattle.words.specs.Promises.{WordsPromises}
+use Rattle.words.specs.State.{fifoOf, leftOf, drawOf, cpOf, bpOf, stateAt, fifoStored, HoldsDraw, Holds}
+use Rattle.words.specs.Promises.{freshAt, WordsPromises}
 use Rattle.words.proofs.Saving.{cp-length, bp-length}
 use Rattle.words.proofs.ReadBack.{read-back}
 
@@ -47,7 +47,8 @@ draw-holds c d r h =
 
 left-lt : (flag left : ℕ) → leftOf flag left < 2 ^ 16
 left-lt flag left =
-    cond-both (λ n. n < 2 ^ 16) (eqb flag 1 && ltb left (2 ^ 16)) (λ e. ltb-true left (2 ^ 16) (and-right (eqb flag 1) (ltb left (2 ^ 16)) e))
+    cond-both (λ n. n < 2 ^ 16) (eqb flag 1 && ltb left (2 ^ 16))
+    (λ e. ltb-true left (2 ^ 16) (and-right (eqb flag 1) (ltb left (2 ^ 16)) e))
     (λ _. lit< tt)
 
 -- ---- the state that words say, and the state after a step
@@ -103,7 +104,7 @@ module _ (l : List ℕ) (f : Fifo) where
   stored-is : (xf vertex : List ℕ) → stateAt (fifoStored l f) xf vertex ≡ stateOf f (cpOf l) (bpOf l) (drawOf l) xf vertex
   stored-is xf vertex = λ i. stateOf (fifo-stored i) (cp-stored i) (bp-stored i) (draw-stored i) xf vertex
 
-fresh-holds : (xf vertex : List ℕ) → Holds (stateOf (freshMachine .fifo) (freshMachine .registers .cp) (freshMachine .registers .bp) (freshMachine .registers .draw) xf vertex)
+fresh-holds : (xf vertex : List ℕ) → Holds (freshAt xf vertex)
 unfolding freshMachine
 fresh-holds xf vertex = record { cp-length = refl; bp-length = refl; of-draw = tt }
 

@@ -121,7 +121,8 @@ module _ (f : Fifo) (draw : Draw) (l : List ℕ) (long : length l ≡ 327) where
       → twice ≡ put once 11 cp → out ≡ put twice 71 bp → out ≡ wordsBy f cp bp draw
   all-saved cp bp n m e1 e2 e3 =
       e3
-      ∙ ap (λ (x : List ℕ). put x 71 bp) (e2 ∙ ap (λ (x : List ℕ). put x 11 cp) e1 ∙ put-cp f draw (cpOf l) cp (bpOf l) (cp-length l long) n)
+      ∙ ap (λ (x : List ℕ). put x 71 bp)
+      (e2 ∙ ap (λ (x : List ℕ). put x 11 cp) e1 ∙ put-cp f draw (cpOf l) cp (bpOf l) (cp-length l long) n)
       ∙ put-bp f draw cp (bpOf l) bp n (bp-length l long) m
 
 -- a command that loads no register of the two

@@ -14,11 +14,14 @@ use Rattle.words.specs.State.{cpOf, bpOf, drawOf, stateAt, stateWords, f
 abbrev pub SaidWhole : State → Type 0
 SaidWhole s = stateAt (stateWords s) (s .xf) (s .buffer) ≡ s
 
+-- the fresh state, with the memory that is lent
+abbrev pub freshAt : List ℕ → List ℕ → State
+freshAt xf vertex =
+    stateOf (freshMachine .fifo) (freshMachine .registers .cp) (freshMachine .registers .bp) (freshMachine .registers .draw) xf vertex
+
 pub record WordsPromises : Type 0 where
-  -- the fresh state
-  pub fresh : (xf vertex : List ℕ)
-      → stateAt freshWords xf vertex
-      ≡ stateOf (freshMachine .fifo) (freshMachine .registers .cp) (freshMachine .registers .bp) (freshMachine .registers .draw) xf vertex
+  -- of the fresh state
+  pub fresh : (xf vertex : List ℕ) → stateAt freshWords xf vertex ≡ freshAt xf vertex
   -- after a step
   pub stepped : (ring words xf vertex : List ℕ) → Octets ring → length words ≡ 327 → SaidWhole (stepOf ring (stateAt words xf vertex))
   -- after a run

@@ -59,7 +59,8 @@ returns-2 c =
     let h = sym (f .front .given .1) ∙ r .read-front .ensures in
     let s = handed (a .state .now) (a .xf .now) (a .vertex .now) h (q .cp .ensures) (b .bp .ensures) in
     rw (← s)
-    (step-none (a .ring .now) _ (a .state .now) (a .unit .now) (a .lacking .now) (p .step .ensures) (none _ (c .before .before .match2 .keys2))
+    (step-none (a .ring .now) _ (a .state .now) (a .unit .now) (a .lacking .now) (p .step .ensures)
+    (none _ (c .before .before .match2 .keys2))
     (c .tell-step .ensures))
 
 save-unit-requires : tie.Need-save-unit-requires

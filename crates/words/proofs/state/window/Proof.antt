@@ -25,4 +25,6 @@ returns : tie.Need-returns
 returns c = search needs
 
 pub window-spec : {M : Type 1} → statement M
-window-spec = tie.close (tie.spec element-copy-out-t4 element-copy-out-t7 element-copy-out-t10 element-copy-out-t13 element-copy-out-t16 element-copy-out-t19 returns)
+window-spec =
+    tie.close (tie.spec element-copy-out-t4 element-copy-out-t7 element-copy-out-t10
+    element-copy-out-t13 element-copy-out-t16 element-copy-out-t19 returns)
