@@ -43,7 +43,9 @@ of-unless (suc r) x h = tt
 module _ (b : List ℕ) (o : Octets b) (n : ℕ) (cp : List ℕ) where
   of-bp : Ranges (lookBp b n)
   unfolding lookBp
-  of-bp = of-whole n 5 (loadBp (getD b 1 0) (bigEndian b 2 3)) 0 (record { bp = λ _. big-lt b 2 o 3; head = differ 0x61 0x80 refl; count = differ 0x61 0x80 refl })
+  of-bp =
+      of-whole n 5 (loadBp (getD b 1 0) (bigEndian b 2 3)) 0
+      (record { bp = λ _. big-lt b 2 o 3; head = differ 0x61 0x80 refl; count = differ 0x61 0x80 refl })
 
   of-head : (op : ℕ) → Ranges (lookHead op b n cp)
   unfolding lookHead

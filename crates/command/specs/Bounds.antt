@@ -11,7 +11,7 @@ Fair n (unit c m l) = (1 ≤ l) × ((l ≤ n) × (l ≤ 129))
 Fair n (waiting k) = (1 ≤ k) × (n + k ≤ 129)
 Fair n (refused r) = Unit {0}
 
--- the fields of a command that was read fit their registers: a BP number has 24 bits, a primitive and a format three, a vertex count 16
+-- the fields of a command that was read have their widths: a BP number 24 bits, a primitive and a format three, a vertex count 16
 pub record Ranged (c : List ℕ) : Type 0 where
   pub bp : kindOf c ≡ 0x61 → fieldOf c 2 < 2 ^ 24
   pub head : kindOf c ≡ 0x80 → (fieldOf c 1 < 8) × (fieldOf c 2 < 8)

@@ -15,10 +15,11 @@ use Rattle.processor.specs.State.{State}
 use Rattle.processor.specs.Step.{after, stepFound, stepOf}
 use Rattle.running.specs.Run.{runOf}
 use Rattle.words.specs.State.{fifoOf, stateAt, fifoStored}
+use Rattle.words.specs.Promises.{stateWith}
 use Rattle.words.proofs.Holding.{words-promises}
 use Rattle.encoding.specs.Told.{firstOf, stepNumber}
 use Rattle.duckhammock.specs.Calls.{WritesRegister, Feeds, Lent, lentOf, lentBy}
-use Rattle.duckhammock.specs.Promises.{withFifo, saidBy, CallsPromises}
+use Rattle.duckhammock.specs.Promises.{saidBy, CallsPromises}
 use Rattle.duckhammock.proofs.Units.{none-run}
 
 -- ---- a call that is not accepted leaves the fifo and the state
@@ -42,12 +43,12 @@ step-kept ring s (refused r) e = refl
 module _ (words xf vertex : List ℕ) where
   -- a fifo that is stored, or is the one that was there
   fifo-said : (b : Bool) (f : Fifo) {words' : List ℕ} → words' ≡ cond b (fifoStored words f) words → (b ≡ false → f ≡ fifoOf words)
-      → stateAt words' xf vertex ≡ withFifo words xf vertex f
-  fifo-said true f e h = ap (λ (l : List ℕ). stateAt l xf vertex) e ∙ words-promises .stored words xf vertex f
-  fifo-said false f e h = ap (λ (l : List ℕ). stateAt l xf vertex) e ∙ ap (withFifo words xf vertex) (sym (h refl))
+      → stateAt words' xf vertex ≡ stateWith words xf vertex f
+  fifo-said true f e h = ap (λ (l : List ℕ). stateAt l xf vertex) e ∙ words-promises .of-fifo words xf vertex f
+  fifo-said false f e h = ap (λ (l : List ℕ). stateAt l xf vertex) e ∙ ap (stateWith words xf vertex) (sym (h refl))
 
   write-said : (offset value r : ℕ) (words' : List ℕ) → WritesRegister words offset value r words'
-      → stateAt words' xf vertex ≡ withFifo words xf vertex (written (fifoOf words) offset value)
+      → stateAt words' xf vertex ≡ stateWith words xf vertex (written (fifoOf words) offset value)
   write-said offset value r words' h =
       fifo-said (eqb r 0) (written (fifoOf words) offset value) (h .state-is)
       (λ e. write-kept (fifoOf words) offset value (writable offset) refl (ap (λ (n : ℕ). eqb n 0) (sym (h .answer-is)) ∙ e))
@@ -60,7 +61,7 @@ module _ (words xf vertex : List ℕ) where
     ring-fed true e = rw e at (h .ring-is)
     ring-fed false e = h .ring-is ∙ rw e (sym (kept e .1))
 
-    feed-said : (stateAt words' xf vertex ≡ withFifo words xf vertex (fifoAfter (fifoOf words) ring bytes))
+    feed-said : (stateAt words' xf vertex ≡ stateWith words xf vertex (fifoAfter (fifoOf words) ring bytes))
         × (ring' ≡ ringAfter (fifoOf words) ring bytes)
     feed-said =
         (fifo-said (eqb r 0) (fifoAfter (fifoOf words) ring bytes) (h .state-is) (λ e. kept e .0), ring-fed (eqb r 0) refl)
@@ -70,7 +71,7 @@ module _ (words xf vertex : List ℕ) where
         → lent' ≡ cond b (lentBy (stepOf ring (stateAt words xf vertex))) (lentOf words xf vertex)
         → saidBy lent' ≡ stepOf ring (stateAt words xf vertex)
     unfolding stepOf
-    step-said true b e l = ap saidBy l ∙ words-promises .stepped ring words xf vertex o long
+    step-said true b e l = ap saidBy l ∙ words-promises .of-step ring words xf vertex o long
     step-said false b e l =
         let s = stateAt words xf vertex in
         ap saidBy l ∙ sym (step-kept ring s (stepFound ring s) (ap (λ (n : ℕ). eqb n 0) (sym e) ∙ b))
@@ -79,13 +80,13 @@ module _ (words xf vertex : List ℕ) where
         → lent' ≡ cond b (lentOf words xf vertex) (lentBy (runOf ring limit (stateAt words xf vertex) .state))
         → saidBy lent' ≡ runOf ring limit (stateAt words xf vertex) .state
     run-said limit true b l = ap saidBy l ∙ sym (none-run ring limit (stateAt words xf vertex) (eqb-true _ 0 b))
-    run-said limit false b l = ap saidBy l ∙ words-promises .ran ring words xf vertex limit o long
+    run-said limit false b l = ap saidBy l ∙ words-promises .of-run ring words xf vertex limit o long
 
 pub calls-promises : CallsPromises
 calls-promises = record {
-  written-is = write-said;
-  fed-is = feed-said;
-  stepped-is = λ ring words xf vertex unit lacking r lent' unit' lacking' o n h.
+  after-write = write-said;
+  after-feed = feed-said;
+  after-step = λ ring words xf vertex unit lacking r lent' unit' lacking' o n h.
       step-said words xf vertex ring o n (eqb r 0) refl (h .answer-is) (h .lent-is);
-  run-is = λ ring words xf vertex limit r lent' report' o n h. run-said words xf vertex ring o n limit _ refl (h .lent-is);
+  after-run = λ ring words xf vertex limit r lent' report' o n h. run-said words xf vertex ring o n limit _ refl (h .lent-is);
 }

@@ -54,7 +54,7 @@ pub extern "C" fn duckhammock_fresh(state: &mut [u32; 327])
     words::save(state, fifo, &cp, &bp, draw);
 }
 
-// ReadsRegister a hardware register; the control register as its word stands.
+// Reads a hardware register; the control register as its word stands.
 #[no_mangle]
 pub extern "C" fn duckhammock_read_register(state: &[u32; 327], offset: u16, value: &mut u32) -> u32
     ensures { λ r. ⌜ ReadsRegister (now (state .entry)) offset (now (value .entry)) r (now (value .exit)) ⌝ }
@@ -77,7 +77,7 @@ pub extern "C" fn duckhammock_read_register(state: &[u32; 327], offset: u16, val
     }
 }
 
-// WritesRegister a hardware register.
+// Writes a hardware register.
 #[no_mangle]
 pub extern "C" fn duckhammock_write_register(state: &mut [u32; 327], offset: u16, value: u16) -> u32
     ensures { λ r. ⌜ WritesRegister (now (state .entry)) offset value r (now (state .exit)) ⌝ }

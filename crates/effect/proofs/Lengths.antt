@@ -10,7 +10,8 @@ use borrow.Author.Tests.{leb-true}
 use Rattle.laws.proofs.Cases.{cond-both}
 use Rattle.command.specs.Command.{kindOf, fieldOf}
 use Rattle.command.specs.Places.{cpCount, cpPlace}
-use Rattle.effect.specs.Effect.{maskPlace, loadedCp, cpAfter, storedBp, loadedBp, bpAfter, storedXf, loadedXf, xfAfter, copied, vertexAfter}
+use Rattle.effect.specs.Effect.{maskPlace, loadedCp, cpAfter, storedBp, loadedBp, bpAfter}
+use Rattle.effect.specs.Effect.{storedXf, loadedXf, xfAfter, copied, vertexAfter}
 
 -- a list as long as another
 abbrev AsLong : List ℕ → List ℕ → Type 0
@@ -26,7 +27,8 @@ pub length-bp : (c bp : List ℕ) → length (bpAfter c bp) ≡ length bp
 unfolding bpAfter loadedBp storedBp
 length-bp c bp =
     cond-both (AsLong bp) (eqb (kindOf c) 0x61)
-    (λ _. cond-both (AsLong bp) (eqb (fieldOf c 1) maskPlace) (λ _. length-set bp _ _) (λ _. length-set (set bp _ _) _ _ ∙ length-set bp _ _))
+    (λ _. cond-both (AsLong bp) (eqb (fieldOf c 1) maskPlace) (λ _. length-set bp _ _)
+    (λ _. length-set (set bp _ _) _ _ ∙ length-set bp _ _))
     (λ _. refl)
 
 pub length-stored : (xf u : List ℕ) (a n : ℕ) → length (storedXf xf u a n) ≡ length xf

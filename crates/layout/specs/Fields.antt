@@ -65,8 +65,8 @@ normalBits (suc (suc zero)) = 15
 normalBits (suc (suc (suc zero))) = 14
 normalBits (suc (suc (suc (suc n)))) = 0
 
--- of attribute, format, bit 30 of group 0 and the VAT's shift: fixed for a normal, "whatever bit 30 says" (document 02, L2, where
--- document 01 has 0), and of others "The shift is 0 for 8-bit components where group 0 bit 30 is clear" (document 01)
+-- the fraction bits by attribute, format, bit 30 of group 0 and the VAT's shift: fixed for a normal, "whatever bit 30 says" (document 02,
+-- L2, where document 01 has 0), and of others "The shift is 0 for 8-bit components where group 0 bit 30 is clear" (document 01)
 unfoldable pub fractionBits : ℕ → ℕ → ℕ → ℕ → ℕ
 fractionBits k format bit30 shift = cond (eqb k 10) (normalBits format) (cond (ltb format 2 && eqb bit30 0) 0 shift)
 

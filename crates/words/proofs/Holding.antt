@@ -1,4 +1,5 @@
--- Every state that 327 words say holds what its words can say, and holds it after every step and run.
+-- A state that 327 words say has its arrays' lengths and a draw's count of 16 bits, and so has the state after every step and run: words
+-- say them whole.
 use mathlib.Core.Path.{_≡_, refl, ap, _∙_}
 use mathlib.Core.Bool.{_&&_}
 use mathlib.Core.List.{List}
@@ -24,7 +25,7 @@ use Rattle.processor.specs.Step.{queueOf, lookAt, executed, after, stepFound, s
 use Rattle.processor.proofs.Valid.{queue-octets}
 use Rattle.running.proofs.Invariant.{run-keeps}
 use Rattle.words.specs.State.{fifoOf, leftOf, drawOf, cpOf, bpOf, stateAt, fifoStored, HoldsDraw, Holds}
-use Rattle.words.specs.Promises.{freshAt, WordsPromises}
+use Rattle.words.specs.Promises.{freshAt, stateWith, WordsPromises}
 use Rattle.words.proofs.Saving.{cp-length, bp-length}
 use Rattle.words.proofs.ReadBack.{read-back}
 
@@ -101,7 +102,7 @@ module _ (l : List ℕ) (f : Fifo) where
   unfolding fifoStored drawOf
   draw-stored = simp getD-drop
 
-  stored-is : (xf vertex : List ℕ) → stateAt (fifoStored l f) xf vertex ≡ stateOf f (cpOf l) (bpOf l) (drawOf l) xf vertex
+  stored-is : (xf vertex : List ℕ) → stateAt (fifoStored l f) xf vertex ≡ stateWith l xf vertex f
   stored-is xf vertex = λ i. stateOf (fifo-stored i) (cp-stored i) (bp-stored i) (draw-stored i) xf vertex
 
 fresh-holds : (xf vertex : List ℕ) → Holds (freshAt xf vertex)
@@ -110,8 +111,8 @@ fresh-holds xf vertex = record { cp-length = refl; bp-length = refl; of-draw = t
 
 pub words-promises : WordsPromises
 words-promises = record {
-  fresh = λ xf vertex. read-back _ (fresh-holds xf vertex);
-  stepped = λ ring l xf vertex o n. read-back _ (step-holds ring o _ (holds-words l xf vertex n));
-  ran = λ ring l xf vertex limit o n. read-back _ (run-keeps ring Holds (step-holds ring o) limit _ (holds-words l xf vertex n));
-  stored = λ l xf vertex f. stored-is l f xf vertex;
+  of-fresh = λ xf vertex. read-back _ (fresh-holds xf vertex);
+  of-step = λ ring l xf vertex o n. read-back _ (step-holds ring o _ (holds-words l xf vertex n));
+  of-run = λ ring l xf vertex limit o n. read-back _ (run-keeps ring Holds (step-holds ring o) limit _ (holds-words l xf vertex n));
+  of-fifo = λ l xf vertex f. stored-is l f xf vertex;
 }

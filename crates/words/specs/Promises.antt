@@ -1,4 +1,5 @@
--- What one call leaves is what the next one reads: the words that a call on 327 words leaves say the state after it.
+-- Words lose nothing: the words of the fresh state and of the state after a step or a run say that state whole, and words with another
+-- fifo stored say the state with that fifo. What calls leave: duckhammock/specs/Promises.
 use mathlib.Core.Path.{_≡_}
 use mathlib.Core.List.{List}
 use Prim.Native.Nat.{ℕ}
@@ -19,14 +20,17 @@ abbrev pub freshAt : List ℕ → List ℕ → State
 freshAt xf vertex =
     stateOf (freshMachine .fifo) (freshMachine .registers .cp) (freshMachine .registers .bp) (freshMachine .registers .draw) xf vertex
 
+-- the state that words and memory say, with another fifo
+abbrev pub stateWith : List ℕ → List ℕ → List ℕ → Fifo → State
+stateWith words xf vertex f = stateOf f (cpOf words) (bpOf words) (drawOf words) xf vertex
+
 pub record WordsPromises : Type 0 where
-  -- of the fresh state
-  pub fresh : (xf vertex : List ℕ) → stateAt freshWords xf vertex ≡ freshAt xf vertex
-  -- after a step
-  pub stepped : (ring words xf vertex : List ℕ) → Octets ring → length words ≡ 327 → SaidWhole (stepOf ring (stateAt words xf vertex))
-  -- after a run
-  pub ran : (ring words xf vertex : List ℕ) (limit : ℕ) → Octets ring → length words ≡ 327
+  -- the fresh state's words say it
+  pub of-fresh : (xf vertex : List ℕ) → stateAt freshWords xf vertex ≡ freshAt xf vertex
+  -- so do those of the state after a step; 327 words and bytes of the ring are the parameters' types
+  pub of-step : (ring words xf vertex : List ℕ) → Octets ring → length words ≡ 327 → SaidWhole (stepOf ring (stateAt words xf vertex))
+  -- and after a run
+  pub of-run : (ring words xf vertex : List ℕ) (limit : ℕ) → Octets ring → length words ≡ 327
       → SaidWhole (runOf ring limit (stateAt words xf vertex) .state)
-  -- after a feed or a write of a hardware register, which store another fifo
-  pub stored : (words xf vertex : List ℕ) (f : Fifo)
-      → stateAt (fifoStored words f) xf vertex ≡ stateOf f (cpOf words) (bpOf words) (drawOf words) xf vertex
+  -- another fifo stored, as an accepted feed or register write does: the rest of the state stays
+  pub of-fifo : (words xf vertex : List ℕ) (f : Fifo) → stateAt (fifoStored words f) xf vertex ≡ stateWith words xf vertex f

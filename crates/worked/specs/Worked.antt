@@ -56,7 +56,7 @@ abbrev normalPart : ℕ → ℕ → ℕ → List ℕ → ℕ → ℕ
 normalPart count format bit30 bytes i =
     getD (decodingOf (named 0xA00 (count * 2 ^ 9 + format * 2 ^ 10 + bit30 * 2 ^ 30)) 10 (0 ∷ 0 ∷ bytes)) (2 + i) 0
 
--- what was found as one number: the bytes of the unit, 1000 and the bytes lacking, or 2000 and the refusal's number
+-- what was found as one number: the bytes of the unit, 1000 plus the bytes lacking, or 2000 plus the refusal's number
 abbrev foundNumber : Found → ℕ
 foundNumber (unit c m n) = n
 foundNumber (waiting k) = 1000 + k
@@ -83,7 +83,7 @@ holding n mask = set (set (replicate 256 0) 0x41 n) 0xFE mask
 pub data Row : Type 0 where
   row : ℕ → ℕ → Row
 
--- document 02, L2: with 6, 14, 7 and 15 fraction bits 40, 4000, 80 and 8000 (hex) are 1.0; bit 30 clear and set give the same; f32 is
+-- document 02, L2: with 6, 14, 7 and 15 fraction bits 40, 4000, 80 and 8000 (hex) are 1.0; 80 as s8 is -2.0; bit 30 clear and set give the same; f32 is
 -- untouched; the ninth component of a normal of nine; 44 alone is a unit of one byte, and 68 gives 6
 unfoldable pub corrected : List Row
 corrected =
