@@ -83,8 +83,8 @@ holding n mask = set (set (replicate 256 0) 0x41 n) 0xFE mask
 pub data Row : Type 0 where
   row : ℕ → ℕ → Row
 
--- document 02, L2: with 6, 14, 7 and 15 fraction bits 40, 4000, 80 and 8000 (hex) are 1.0; 80 as s8 is -2.0; bit 30 clear and set give the same; f32 is
--- untouched; the ninth component of a normal of nine; 44 alone is a unit of one byte, and 68 gives 6
+-- document 02, L2: with 6, 14, 7 and 15 fraction bits 40, 4000, 80 and 8000 (hex) are 1.0; 80 as s8 is -2.0; bit 30 clear and set give
+-- the same; f32 is untouched; the ninth component of a normal of nine; 44 alone is a unit of one byte, and 68 gives 6
 unfoldable pub corrected : List Row
 corrected =
     row (normalPart 0 1 0 (0x40 ∷ 0 ∷ 0 ∷ []) 0) 0x3F800000
