@@ -4,7 +4,7 @@ use mathlib.Core.Path.{_≡_, sym, ap, _∙_}
 use mathlib.Core.Logic.{_⊎_, inl, inr, ⊎-elim}
 use native.Mathlib.Nat.{mod-lt, mod-eq-of-lt, mod-add-mod, add-mod-right, add-sub-cancel-left, add-zero}
 use native.Mathlib.Omega.{arith}
-use Rattle.laws.proofs.Remainder.{mod-two}
+use Rattle.laws.proofs.Remainder.{mod-two, mod-distinct}
 use Rattle.fifo.specs.declared.Window.{Window}
 use Rattle.fifo.specs.declared.Fifo.{Fifo}
 use Rattle.fifo.specs.Window.{Ready, withRead, sizeOf, Valid, countOf, withWindow, withWrite, accept, consume, placeAfter}
@@ -102,24 +102,49 @@ pub ready-accept : (f : Fifo) (m : ℕ) → Ready f m → (n : ℕ) → Ready (a
 unfolding accept
 ready-accept f m r n = record { valid = accept-valid f (r .valid) n; whole = r .whole }
 
--- consuming nothing changes nothing
-pub consume-none : (f : Fifo) → Valid (f .window) → consume f 0 ≡ f
-unfolding consume
-consume-none f v =
-    let w : Window = f .window in
-    let e : w .start + placeAfter w (w .read) 0 ≡ w .read =
-    ap (λ (x : ℕ). w .start + x % sizeOf w) (add-zero (w .read - w .start)) ∙
+-- ---- moves in a row
+
+-- a pointer that moves by nothing stays
+after-none : (w : Window) (p : ℕ) → w .start ≤ p → p < w .end → w .start + placeAfter w p 0 ≡ p
+after-none w p l h =
+    ap (λ (x : ℕ). w .start + x % sizeOf w) (add-zero (p - w .start)) ∙
     ap (λ (x : ℕ). w .start + x) (mod-eq-of-lt (omega arith)) ∙
-    omega arith in
-    ap (λ (x : ℕ). withWindow f (withRead w x)) e
+    omega arith
 
 -- two moves are one
+after-after : (w : Window) (p a b : ℕ) → placeAfter w (w .start + placeAfter w p a) b ≡ placeAfter w p (a + b)
+after-after w p a b =
+    let q : p - w .start + a + b ≡ p - w .start + (a + b) = omega arith in
+    ap (λ (x : ℕ). (x + b) % sizeOf w) (add-sub-cancel-left (w .start) (placeAfter w p a)) ∙
+    mod-add-mod (p - w .start + a) (sizeOf w) b ∙
+    ap (λ (x : ℕ). x % sizeOf w) q
+
+-- moves less than a turn apart lead to different places
+pub places-differ : (w : Window) (p m n : ℕ) → m < n → n < m + sizeOf w → placeAfter w p m ≡ placeAfter w p n → ⊥
+places-differ w p m n l h e =
+    let q : p - w .start + n ≡ p - w .start + m + (n - m) = omega arith in
+    mod-distinct (p - w .start + m) (n - m) (sizeOf w) (omega arith) (omega arith) (e ∙ ap (λ (x : ℕ). x % sizeOf w) q)
+
+pub consume-none : (f : Fifo) → Valid (f .window) → consume f 0 ≡ f
+unfolding consume
+consume-none f v = ap (λ (x : ℕ). withWindow f (withRead (f .window) x)) (after-none (f .window) (f .window .read) (omega arith) (omega arith))
+
+pub accept-none : (f : Fifo) → Valid (f .window) → accept f 0 ≡ f
+unfolding accept
+accept-none f v = ap (λ (x : ℕ). withWindow f (withWrite (f .window) x)) (after-none (f .window) (f .window .write) (omega arith) (omega arith))
+
 pub consume-consume : (f : Fifo) (a b : ℕ) → consume (consume f a) b ≡ consume f (a + b)
 unfolding consume
 consume-consume f a b =
-    let w : Window = f .window in
-    let q : w .read - w .start + a + b ≡ w .read - w .start + (a + b) = omega arith in
-    ap (λ (x : ℕ). withWindow f (withRead w (w .start + x)))
-    (ap (λ (x : ℕ). (x + b) % sizeOf w) (add-sub-cancel-left (w .start) (placeAfter w (w .read) a)) ∙
-    mod-add-mod (w .read - w .start + a) (sizeOf w) b ∙
-    ap (λ (x : ℕ). x % sizeOf w) q)
+    ap (λ (x : ℕ). withWindow f (withRead (f .window) (f .window .start + x))) (after-after (f .window) (f .window .read) a b)
+
+pub accept-accept : (f : Fifo) (a b : ℕ) → accept (accept f a) b ≡ accept f (a + b)
+unfolding accept
+accept-accept f a b =
+    ap (λ (x : ℕ). withWindow f (withWrite (f .window) (f .window .start + x))) (after-after (f .window) (f .window .write) a b)
+
+-- the place of a later byte, from the write pointer as it was
+pub accept-place : (f : Fifo) (a b : ℕ)
+    → placeAfter (accept f a .window) (accept f a .window .write) b ≡ placeAfter (f .window) (f .window .write) (a + b)
+unfolding accept
+accept-place f a b = after-after (f .window) (f .window .write) a b

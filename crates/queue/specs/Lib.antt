@@ -1,3 +1,4 @@
 pub mod Pending
 pub mod Feeding
 pub mod Cursor
+pub mod Promises

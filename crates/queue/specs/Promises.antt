@@ -1,0 +1,77 @@
+-- What feeds promise together. Document 02, L7: "copy at most two straight stretches, the second only past the ring's end, from its first byte.
+-- State the fed ring by them .. Nothing that a caller can observe may differ, refusal 11 included." Feeding `putRound` are the stretches; here
+-- stands that they leave what storing byte after byte leaves, and that a feed may be cut into pieces. Proved in proofs/Pieces.
+use Prim.Native.Nat.{ℕ, _+_, _-_}
+use mathlib.Core.Path.{_≡_}
+use mathlib.Core.Bool.{cond}
+use mathlib.Core.List.{List, [], _∷_, _++_}
+use lib.Dec.{eqb}
+use lib.ListN.{length, set}
+use Rattle.fifo.specs.declared.Window.{Window}
+use Rattle.fifo.specs.declared.Fifo.{Fifo}
+use Rattle.fifo.specs.Window.{withWindow, withWrite}
+use Rattle.queue.specs.Feeding.{feedRefusal, fifoAfter, ringAfter}
+
+-- a fifo and its ring's bytes: what a feed is handed and leaves
+pub record Backed : Type 0 where
+  pub fifo : Fifo
+  pub ring : List ℕ
+
+-- a feed's answer: 0 where it is accepted, and else its refusal
+abbrev pub answerOf : Backed → List ℕ → ℕ
+answerOf s bytes = feedRefusal (s .fifo) (length (s .ring)) (length bytes)
+
+-- what a feed leaves
+abbrev pub afterFeed : Backed → List ℕ → Backed
+afterFeed s bytes = record { fifo = fifoAfter (s .fifo) (s .ring) bytes; ring = ringAfter (s .fifo) (s .ring) bytes }
+
+-- ---- byte after byte
+
+-- the write pointer one place on, from the ring's last place to its first
+abbrev pub nextWrite : Window → ℕ
+nextWrite w = cond (eqb (w .write + 1) (w .end)) (w .start) (w .write + 1)
+
+-- one byte stored at the write pointer
+abbrev pub storeOne : Backed → ℕ → Backed
+storeOne s byte =
+    record {
+      fifo = withWindow (s .fifo) (withWrite (s .fifo .window) (nextWrite (s .fifo .window)));
+      ring = set (s .ring) (s .fifo .window .write - s .fifo .window .start) byte;
+    }
+
+-- bytes stored one after the other
+unfoldable pub storeEach : Backed → List ℕ → Backed
+storeEach s [] = s
+storeEach s (b ∷ bs) = storeEach (storeOne s b) bs
+
+-- ---- pieces
+
+-- the bytes of pieces, in their order
+unfoldable pub joined : List (List ℕ) → List ℕ
+joined [] = []
+joined (p ∷ ps) = p ++ joined ps
+
+-- of two answers in a row the first that is a refusal
+abbrev pub firstRefusal : ℕ → ℕ → ℕ
+firstRefusal m n = cond (eqb m 0) n m
+
+-- the first refusal of feeds in a row, each handed what the one before it left; 0 where all are accepted
+unfoldable pub answerOfEach : Backed → List (List ℕ) → ℕ
+answerOfEach s [] = 0
+answerOfEach s (p ∷ ps) = firstRefusal (answerOf s p) (answerOfEach (afterFeed s p) ps)
+
+-- what they leave
+unfoldable pub afterEach : Backed → List (List ℕ) → Backed
+afterEach s [] = s
+afterEach s (p ∷ ps) = afterEach (afterFeed s p) ps
+
+pub record FeedPromises : Type 0 where
+  -- an accepted feed leaves the fifo and the ring as storing its bytes one after the other leaves them
+  pub byte-by-byte : (s : Backed) (bytes : List ℕ) → answerOf s bytes ≡ 0 → afterFeed s bytes ≡ storeEach s bytes
+  -- a feed cut in two: its answer is the first refusal of the two, and where both are accepted they leave what it leaves
+  pub cut-answer : (s : Backed) (a b : List ℕ) → answerOf s (a ++ b) ≡ firstRefusal (answerOf s a) (answerOf (afterFeed s a) b)
+  pub cut-after : (s : Backed) (a b : List ℕ) → answerOf s (a ++ b) ≡ 0 → afterFeed s (a ++ b) ≡ afterFeed (afterFeed s a) b
+  -- the same of one or more pieces, of any lengths
+  pub pieces-answer : (s : Backed) (p : List ℕ) (ps : List (List ℕ)) → answerOf s (joined (p ∷ ps)) ≡ answerOfEach s (p ∷ ps)
+  pub pieces-after : (s : Backed) (p : List ℕ) (ps : List (List ℕ)) → answerOf s (joined (p ∷ ps)) ≡ 0
+      → afterFeed s (joined (p ∷ ps)) ≡ afterEach s (p ∷ ps)
