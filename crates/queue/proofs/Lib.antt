@@ -2,5 +2,5 @@ pub mod Moves
 pub mod Pending
 pub mod Stretches
 pub mod FeedLaws
-pub mod Pieces
+pub mod Feeds
 pub mod CursorLaws

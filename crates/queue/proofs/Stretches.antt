@@ -2,13 +2,14 @@
 use Prim.Native.Nat.{ℕ, _+_, _-_, _%_, _≤_, _<_}
 use mathlib.Core.Path.{_≡_, sym, ap, _∙_}
 use mathlib.Core.Logic.{⊎-elim}
-use mathlib.Core.List.{List, _++_}
+use mathlib.Core.List.{List, _++_, append-assoc}
 use native.Mathlib.Nat.{mod-eq-of-lt, le-of-eq}
 use native.Mathlib.Omega.{arith}
-use native.Mathlib.Numerals.{add-one}
-use lib.ListN.{length, getD, set, take, drop, length-append, length-drop, List·getD-append, take-append-drop, drop-of-length-le}
-use lib.Seq.{length-take-le, take-all, take-length, paste, paste-suc, getD-take, getD-drop, getD-append-add}
+use lib.ListN.{length, getD, take, drop, length-append, length-drop, List·getD-append, take-append-drop, drop-of-length-le}
+use lib.Seq.{length-take-le, take-all, take-length, drop-drop, getD-take, getD-drop, getD-append-add}
+use borrow.Rule.Slice.PartMut.{putMid}
 use Rattle.laws.proofs.Cases.{order}
+use Rattle.laws.proofs.Pieces.{lent-rest}
 use Rattle.laws.proofs.Remainder.{mod-two, mod-once}
 use Rattle.queue.specs.Feeding.{put, putRound}
 
@@ -125,20 +126,14 @@ module _ (ring : List ℕ) (at straight : ℕ) (bytes : List ℕ) (turn : at + s
       (order j at))
       (order j (length (drop straight bytes)))
 
--- ---- a loop that stores byte after byte
-
-pub store-more : (d : List ℕ) (at : ℕ) (bytes : List ℕ) (k : ℕ) {l : List ℕ} → at + length bytes ≤ length d → k < length bytes
-    → l ≡ paste d at bytes k → set l (at + k) (getD bytes k 0) ≡ paste d at bytes (k + 1)
-store-more d at bytes k h b e =
-    ap (λ (x : List ℕ). set x (at + k) (getD bytes k 0)) e ∙
-    paste-suc d at bytes k 0 (omega arith) b ∙
-    ap (λ (x : ℕ). paste d at bytes x) (sym (add-one k))
-
-pub store-all : (d : List ℕ) (at : ℕ) (bytes : List ℕ) (k : ℕ) {l : List ℕ} → k ≤ length bytes → length bytes ≤ k
-    → l ≡ paste d at bytes k → l ≡ put d at bytes
-store-all d at bytes k h b e =
-    let q : k ≡ length bytes = omega arith in
-    e ∙ ap (λ (x : ℕ). paste d at bytes x) q ∙ ap (λ (x : List ℕ). take at d ++ x ++ drop (at + length bytes) d) (take-length bytes)
+-- a part of the ring from a place to its end, given back with the bytes over its front
+pub put-lent : (ring : List ℕ) (at : ℕ) (bytes v : List ℕ)
+    → v ≡ take (length bytes) bytes ++ drop (length bytes) (take (length ring - at) (drop at ring))
+    → putMid at (length ring - at) ring v ≡ put ring at bytes
+put-lent ring at bytes v e =
+    lent-rest ring bytes v at (e ∙ rw (take-length bytes)) ∙
+    ap (λ (x : List ℕ). take at ring ++ (bytes ++ x)) (drop-drop (length bytes) at ring) ∙
+    sym (append-assoc (take at ring) bytes (drop (at + length bytes) ring))
 
 -- ---- the two stretches where the first takes all
 

@@ -17,11 +17,7 @@ pub(crate) fn store(ring: &mut [u8], at: usize, bytes: &[u8])
     requires { ⌜ at + length (now bytes) ≤ length (now ring) ⌝ }
     ensures { λ _. ⌜ now (ring .exit) ≡ put (now (ring .entry)) at (now (bytes .entry)) ⌝ }
 {
-    let mut k: usize = 0;
-    while k < bytes.len() {
-        ring[at + k] = bytes[k];
-        k += 1;
-    }
+    bytes::copy(bytes, &mut ring[at..]);
 }
 
 // Stores bytes from a place on and, past the ring's end, which is `straight` bytes on, from its start.

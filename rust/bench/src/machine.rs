@@ -17,7 +17,7 @@ pub struct Lent {
 }
 
 impl Lent {
-    fn new() -> Box<Lent> {
+    pub fn new() -> Box<Lent> {
         Box::new(Lent {
             ring: [0xCC; RING],
             xf: [0xAAAA_AAAA; XF_WORDS],

@@ -2,6 +2,7 @@
 //! markdown tables. Nothing is timed before both gave the same on every row.
 #![forbid(unsafe_code)]
 
+mod feeds;
 mod formats;
 mod machine;
 mod player;
@@ -11,10 +12,11 @@ mod streams;
 mod timing;
 mod vertices;
 
+use feeds::{feeds, Feeds};
 use rows::{lengths, rows, thousands, Lengths, Row};
 use std::process::ExitCode;
 use std::time::Duration;
-use timing::{clock_cost, in_turn, median, ratio, Plan};
+use timing::{clock_cost, difference, in_turn, median, ratio, Plan};
 
 const USAGE: &str = "usage: bench [--quick]";
 
@@ -38,12 +40,13 @@ fn main() -> ExitCode {
         eprintln!("{USAGE}");
         return ExitCode::from(2);
     };
-    let compared = rows().and_then(|rows| Ok((rows, lengths()?)));
+    let compared = rows().and_then(|rows| Ok((rows, lengths()?, feeds()?)));
     match compared {
-        Ok((rows, lengths)) => {
+        Ok((rows, lengths, feeds)) => {
             print_preface(&plan);
             print_rows(rows, &plan);
             print_lengths(lengths, &plan);
+            print_feeds(feeds, &plan);
             ExitCode::SUCCESS
         }
         Err(what) => {
@@ -55,7 +58,7 @@ fn main() -> ExitCode {
 
 fn print_preface(plan: &Plan) {
     println!(
-        "Compared before timing, on the input of every row of both tables: each answer, the units \
+        "Compared before timing, on the input of every row of the first two tables: each answer, the units \
          done, and the state words, ring, XF words and vertex buffer left. All were the same."
     );
     println!();
@@ -69,7 +72,7 @@ fn print_preface(plan: &Plan) {
 
 /// Nanoseconds with about three places that count.
 fn nanoseconds(time: f64) -> String {
-    let places = match time {
+    let places = match time.abs() {
         t if t < 1.0 => 4,
         t if t < 100.0 => 2,
         t if t < 1000.0 => 1,
@@ -114,5 +117,26 @@ fn print_lengths(streams: [Lengths; 2], plan: &Plan) {
                 ratio(&pair[1], &times[1])
             );
         }
+    }
+}
+
+/// The third table. The three sides of a size are timed in turn.
+fn print_feeds(sizes: Vec<Feeds>, plan: &Plan) {
+    println!();
+    println!("| bytes of a feed | feeds | proved feed, ns | bare copy, ns | ratio | beyond the copy, ns | byte after byte, ns | ratio |");
+    println!("|---:|---:|---:|---:|---:|---:|---:|---:|");
+    for mut size in sizes {
+        let times = in_turn(&mut size.sides, plan);
+        println!(
+            "| {} | {} | {} | {} | {:.2} | {} | {} | {:.2} |",
+            thousands(size.bytes as u32),
+            thousands(size.feeds as u32),
+            nanoseconds(median(&times[0])),
+            nanoseconds(median(&times[1])),
+            ratio(&times[0], &times[1]),
+            nanoseconds(difference(&times[0], &times[1])),
+            nanoseconds(median(&times[2])),
+            ratio(&times[0], &times[2])
+        );
     }
 }

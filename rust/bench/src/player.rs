@@ -9,9 +9,9 @@ use std::hint::black_box;
 
 /// The largest limit of a run.
 const LIMIT: u32 = 65_535;
-const START: u32 = 0x1000;
+pub const START: u32 = 0x1000;
 /// Where both pointers begin: a stream that fills the ring wraps.
-const POINTER: u32 = START + 40_001;
+pub const POINTER: u32 = START + 40_001;
 
 /// What is timed.
 #[derive(Clone)]
@@ -22,8 +22,6 @@ pub enum Work {
     Steps(u32),
     /// The same bytes fed so often; the feeds are counted.
     Feeds(Vec<u8>, u32),
-    /// The bytes fed once; they are counted.
-    FeedBytes(Vec<u8>),
     /// So many runs of limit 0.
     EmptyRuns(u32),
     /// The stream in pieces of so many bytes, a feed and a run of each; the
@@ -48,7 +46,6 @@ impl Input {
             Work::Steps(times) | Work::Feeds(_, times) | Work::EmptyRuns(times) => {
                 u64::from(*times)
             }
-            Work::FeedBytes(bytes) => bytes.len() as u64,
             Work::Bursts(stream, size) => stream.bytes.chunks(*size).len() as u64,
         }
     }
@@ -80,10 +77,6 @@ impl<M: Machine> Side for Player<M> {
                     black_box(machine.feed(black_box(bytes)));
                 }
                 u64::from(*times)
-            }
-            Work::FeedBytes(bytes) => {
-                black_box(machine.feed(black_box(bytes)));
-                bytes.len() as u64
             }
             Work::EmptyRuns(times) => {
                 for _ in 0..*times {
@@ -142,6 +135,16 @@ fn set_up<M: Machine>(input: &Input) -> (M, Vec<u32>) {
     (machine, answers)
 }
 
+/// A machine with an empty ring, kept for `reset`.
+pub fn empty<M: Machine>() -> M {
+    let nothing = Input {
+        preamble: Stream::default(),
+        stream: Stream::default(),
+        work: Work::Run,
+    };
+    set_up(&nothing).0
+}
+
 /// One step, with the bytes that it took by the count register.
 fn step_told<M: Machine>(machine: &mut M) -> [u32; 8] {
     let [_, before] = machine.read_register(0x030);
@@ -167,11 +170,6 @@ fn answers_of<M: Machine>(machine: &mut M, work: &Work) -> (Vec<u32>, u64) {
             let feeds: Vec<u32> = (0..*times).map(|_| machine.feed(bytes)).collect();
             let done = feeds.iter().filter(|&&answer| answer == 0).count();
             (feeds, done as u64)
-        }
-        Work::FeedBytes(bytes) => {
-            let answer = machine.feed(bytes);
-            let fed = if answer == 0 { bytes.len() } else { 0 };
-            (vec![answer], fed as u64)
         }
         Work::EmptyRuns(times) => {
             let runs: Vec<[u32; 3]> = (0..*times).map(|_| machine.run(0)).collect();

@@ -127,7 +127,7 @@ fn from_empty(work: Work) -> Result<Sides, String> {
 }
 
 /// A feed that fills the ring and wraps, and small feeds until it is full.
-fn feed_rows() -> Result<[Row; 3], String> {
+fn feed_rows() -> Result<[Row; 2], String> {
     let mut random = Random::new(7);
     let full = random.bytes(ROOM);
     let small = random.bytes(64);
@@ -136,11 +136,7 @@ fn feed_rows() -> Result<[Row; 3], String> {
     Ok([
         row(
             "wrapped feed of 65,535 bytes, per feed".into(),
-            from_empty(Work::Feeds(full.clone(), 1)),
-        )?,
-        row(
-            "wrapped feed of 65,535 bytes, per byte".into(),
-            from_empty(Work::FeedBytes(full)),
+            from_empty(Work::Feeds(full, 1)),
         )?,
         row(name, from_empty(Work::Feeds(small, times)))?,
     ])

@@ -1,13 +1,30 @@
 -- `words::state::store` meets its contract: after k values the first k of them stand from the place on.
-use mathlib.Core.Path.{_≡_, refl}
-use Prim.Native.Nat.{_-_, _≤_}
+use mathlib.Core.Path.{_≡_, refl, sym, ap, _∙_}
+use mathlib.Core.List.{List, _++_}
+use Prim.Native.Nat.{ℕ, _+_, _-_, _≤_, _<_}
+use native.Mathlib.Numerals.{add-one}
 use native.Mathlib.Omega.{arith}
-use lib.ListN.{length, length-set}
-use lib.Seq.{paste, paste-zero}
+use lib.ListN.{length, getD, set, take, drop, length-set}
+use lib.Seq.{take-length, paste, paste-zero, paste-suc}
 use borrow.Author.Needs.{needs}
-use Rattle.queue.proofs.Stretches.{store-more, store-all}
+use Rattle.queue.specs.Feeding.{put}
 use Rattle.words.proofs.state.store.Statement.{statement}
 use Rattle.words.proofs.state.store.Tie as tie
+
+-- one value more
+store-more : (d : List ℕ) (at : ℕ) (values : List ℕ) (k : ℕ) {l : List ℕ} → at + length values ≤ length d → k < length values
+    → l ≡ paste d at values k → set l (at + k) (getD values k 0) ≡ paste d at values (k + 1)
+store-more d at values k h b e =
+    ap (λ (x : List ℕ). set x (at + k) (getD values k 0)) e ∙
+    paste-suc d at values k 0 (omega arith) b ∙
+    ap (λ (x : ℕ). paste d at values x) (sym (add-one k))
+
+-- all of them
+store-all : (d : List ℕ) (at : ℕ) (values : List ℕ) (k : ℕ) {l : List ℕ} → k ≤ length values → length values ≤ k
+    → l ≡ paste d at values k → l ≡ put d at values
+store-all d at values k h b e =
+    let q : k ≡ length values = omega arith in
+    e ∙ ap (λ (x : ℕ). paste d at values x) q ∙ ap (λ (x : List ℕ). take at d ++ x ++ drop (at + length values) d) (take-length values)
 
 abbrev Inv-loop : tie.InvT-loop
 Inv-loop out₀ at values k₀ out k = (k ≤ length values) × (length out ≡ length out₀) × (out ≡ paste out₀ at values k)

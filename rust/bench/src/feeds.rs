@@ -1,0 +1,170 @@
+//! The third table: feeds beside a bare copy of as many bytes, and beside a
+//! feed that stores byte after byte.
+
+use crate::machine::{Lent, Machine, Proved, RING};
+use crate::player::{empty, POINTER, START};
+use crate::random::Random;
+use crate::timing::Side;
+use std::hint::black_box;
+use std::rc::Rc;
+
+/// Bytes of a feed; the last fills the ring and wraps.
+const SIZES: [usize; 6] = [1, 16, 64, 256, 4096, RING - 1];
+/// The most feeds of one timed part.
+const MOST: usize = 4096;
+/// Where the first byte goes, counted from the ring's start.
+const PLACE: usize = (POINTER - START) as usize;
+
+/// Feeds of one size.
+pub struct Feeds {
+    pub bytes: usize,
+    pub feeds: usize,
+    /// The proved feed, the bare copy, the feed byte after byte.
+    pub sides: [Box<dyn Side>; 3],
+}
+
+/// What is fed, and how often: the same bytes at the same address for all.
+#[derive(Clone)]
+struct Load {
+    source: Rc<Lent>,
+    bytes: usize,
+    feeds: usize,
+}
+
+impl Load {
+    fn bytes(&self) -> &[u8] {
+        black_box(&self.source.ring[..self.bytes])
+    }
+}
+
+struct ProvedFeeds {
+    load: Load,
+    machine: Proved,
+}
+
+impl Side for ProvedFeeds {
+    fn reset(&mut self) {
+        self.machine.reset();
+    }
+
+    fn work(&mut self) -> u64 {
+        let machine = black_box(&mut self.machine);
+        for _ in 0..self.load.feeds {
+            black_box(machine.feed(self.load.bytes()));
+        }
+        self.load.feeds as u64
+    }
+}
+
+/// As long as two rings, so that nothing goes round an end; aligned as a ring.
+#[repr(align(4096))]
+struct Straight([u8; 2 * RING]);
+
+/// Copies to the places of the feeds, one after the other.
+struct Copies {
+    load: Load,
+    out: Box<Straight>,
+}
+
+impl Side for Copies {
+    fn reset(&mut self) {}
+
+    fn work(&mut self) -> u64 {
+        let out = black_box(&mut self.out.0);
+        let mut place = PLACE;
+        for _ in 0..self.load.feeds {
+            let bytes = self.load.bytes();
+            out[place..place + bytes.len()].copy_from_slice(bytes);
+            black_box(&mut *out);
+            place += bytes.len();
+        }
+        self.load.feeds as u64
+    }
+}
+
+/// A ring that is never read, and so has room while fewer than its size are in.
+struct ByteAfterByte {
+    load: Load,
+    lent: Box<Lent>,
+    write: usize,
+    count: usize,
+}
+
+impl ByteAfterByte {
+    /// Whether there was room.
+    #[inline(never)]
+    fn feed(&mut self, bytes: &[u8]) -> bool {
+        if bytes.len() > RING - 1 - self.count {
+            return false;
+        }
+        for &byte in bytes {
+            self.lent.ring[self.write] = byte;
+            self.write += 1;
+            if self.write == RING {
+                self.write = 0;
+            }
+        }
+        self.count += bytes.len();
+        true
+    }
+}
+
+impl Side for ByteAfterByte {
+    fn reset(&mut self) {
+        self.write = PLACE;
+        self.count = 0;
+    }
+
+    fn work(&mut self) -> u64 {
+        let load = self.load.clone();
+        for _ in 0..load.feeds {
+            black_box(self.feed(load.bytes()));
+        }
+        load.feeds as u64
+    }
+}
+
+/// Every size, once the proved feed and the one byte after byte gave the same.
+pub fn feeds() -> Result<Vec<Feeds>, String> {
+    let mut source = Lent::new();
+    source.ring.copy_from_slice(&Random::new(8).bytes(RING));
+    let source = Rc::new(*source);
+    let loads = SIZES.iter().map(|&bytes| Load {
+        source: Rc::clone(&source),
+        bytes,
+        feeds: MOST.min((RING - 1) / bytes),
+    });
+    loads.map(compared).collect()
+}
+
+fn compared(load: Load) -> Result<Feeds, String> {
+    let (bytes, feeds) = (load.bytes, load.feeds);
+    let mut proved = ProvedFeeds {
+        load: load.clone(),
+        machine: empty(),
+    };
+    let mut slow = ByteAfterByte {
+        load: load.clone(),
+        lent: Lent::new(),
+        write: PLACE,
+        count: 0,
+    };
+    for feed in 1..=feeds {
+        let answer = proved.machine.feed(load.bytes());
+        if answer != 0 || !slow.feed(load.bytes()) {
+            return Err(format!("feed {feed} of {bytes} bytes was refused: {answer}"));
+        }
+    }
+    if proved.machine.lent().ring != slow.lent.ring {
+        return Err(format!("the rings after feeds of {bytes} bytes differ"));
+    }
+    let copies = Copies {
+        load,
+        out: Box::new(Straight([0xCC; 2 * RING])),
+    };
+    Ok(Feeds {
+        bytes,
+        feeds,
+        sides: [Box::new(proved), Box::new(copies), Box::new(slow)],
+    })
+}
