@@ -1,6 +1,7 @@
 -- What several calls promise together: each type here is the statement of the theorem that has its name in `proofs/`.
 use mathlib.Core.Path.{_≡_}
-use mathlib.Core.List.{List}
+use mathlib.Core.Bool.{true}
+use mathlib.Core.List.{List, _∷_, map}
 use Prim.Native.Nat.{ℕ, _+_, _-_}
 use lib.ListN.{length, take, drop}
 use Rattle.octets.specs.BigEndian.{Octets}
@@ -15,6 +16,8 @@ use Rattle.writer.specs.Write.{commandBytes}
 use Rattle.writer.specs.Widths.{Typed, reported}
 use Rattle.writer.specs.Back.{Writable, WordsFit}
 use Rattle.fifo.specs.Window.{Ready, sizeOf}
+use Rattle.queue.specs.Feeding.{accepted}
+use Rattle.queue.specs.Promises.{joined}
 use Rattle.processor.specs.State.{State}
 use Rattle.processor.specs.Gate.{gateOf}
 use Rattle.processor.specs.Step.{stepFound, stepOf}
@@ -69,6 +72,12 @@ abbrev pub StepWords : Type 0
 StepWords =
     (w : World) (n address : ℕ) (words : List ℕ) → WrittenAlone w (LoadXf n address) words → WordsFit words
     → take n (drop address (stepOf (w .ring) (w .state) .xf)) ≡ words
+
+-- Bytes fed in pieces, one call for each: where one feed of them all is accepted, the calls leave the world that it leaves. (proofs/Joined)
+abbrev pub FeedsJoined : Type 0
+FeedsJoined =
+    (w : World) (p : List ℕ) (ps : List (List ℕ)) → accepted (w .state .fifo) (w .ring) (joined (p ∷ ps)) ≡ true
+    → afterAll w (map feed (p ∷ ps)) ≡ after w (feed (joined (p ∷ ps)))
 
 -- a state that passes 1 to 5 passes them after a run (proofs/Passes)
 abbrev pub RunPasses : Type 0

@@ -10,7 +10,6 @@ use lib.ListN.{length, getD, length-append, List·getD-append}
 use lib.Seq.{ext-getD, getD-append-add}
 use borrow.Author.Tests.{leb-true, le-leb, lt-leb, eqb-true}
 use Rattle.laws.proofs.Cases.{order, tested}
-use Rattle.laws.proofs.Remainder.{mod-distinct}
 use Rattle.refusal.specs.declared.Reason.the-variants.{InvalidState, FeedTooLong}
 use Rattle.fifo.specs.declared.Answer.the-variants.{Accepted, Refused}
 use Rattle.fifo.specs.declared.Window.{Window}
@@ -19,7 +18,7 @@ use Rattle.fifo.specs.Window.{sizeOf, Ready, readyBy, countOf, accept, placeAft
 use Rattle.queue.specs.Pending.{pending}
 use Rattle.queue.specs.Feeding.{roomOf, feedRefusal, fed, accepted, bytesAccepted, fifoAfter, ringAfter, FedBy}
 use Rattle.fifo.proofs.WindowLaws.{ready-true, true-ready, count-below}
-use Rattle.queue.proofs.Moves.{write-after, ready-accept, count-accept}
+use Rattle.queue.proofs.Moves.{write-after, ready-accept, count-accept, places-differ}
 use Rattle.queue.proofs.Pending.{length-pending, pending-at}
 use Rattle.queue.proofs.Stretches.{length-put-round, round-at, round-other}
 
@@ -93,10 +92,7 @@ module _ (f : Fifo) (ring bytes : List ℕ) (a : Fits f (length ring) (length by
       ⊎-elim
       (λ h.
       fed-other (placeAfter w (w .read) k)
-      (λ i s e.
-      let q : w .read - w .start + (countOf w + i) ≡ w .read - w .start + k + (countOf w + i - k) = omega arith in
-      mod-distinct (w .read - w .start + k) (countOf w + i - k) (sizeOf w) (omega arith) (omega (arith, a .room))
-      (e ∙ write-after w v i ∙ ap (λ (x : ℕ). x % sizeOf w) q)) ∙
+      (λ i s e. places-differ w (w .read) k (countOf w + i) (omega arith) (omega (arith, a .room)) (e ∙ write-after w v i)) ∙
       sym (List·getD-append (pending w ring) bytes 0 k (omega arith) ∙ pending-at w ring k h))
       (λ h.
       let i : ℕ = k - countOf w in

@@ -2,12 +2,12 @@
 use Prim.Native.Nat.{ℕ, suc, _+_, _-_, _%_, _≤_, _<_}
 use mathlib.Core.Path.{_≡_, refl, sym, ap, subst, _∙_}
 use mathlib.Core.Logic.{_⊎_, inl, inr, ⊎-elim}
-use mathlib.Core.Bool.{Bool, true, false, cond}
+use mathlib.Core.Bool.{true, false}
 use mathlib.Core.List.{List, [], _∷_, _++_, append-nil}
 use native.Mathlib.Nat.{mod-eq-of-lt, add-zero}
 use native.Mathlib.Numerals.{add-one}
 use native.Mathlib.Omega.{arith}
-use lib.Dec.{leb, eqb}
+use lib.Dec.{eqb}
 use lib.ListN.{length, getD, set, take, drop, length-append, List·getD-append, take-append-drop}
 use lib.Seq.{ext-getD, getD-append-add, set-split, append-snoc}
 use borrow.Author.Tests.{eqb-true, eqb-false, lt-leb}
@@ -17,9 +17,11 @@ use Rattle.fifo.specs.declared.Window.{Window}
 use Rattle.fifo.specs.declared.Fifo.{Fifo}
 use Rattle.fifo.specs.Window.{sizeOf, Valid, Ready, readyBy, countOf, accept, placeAfter, withWindow, withWrite}
 use Rattle.queue.specs.Feeding.{roomOf, feedRefusal, put, putRound, fed, accepted, fifoAfter, ringAfter}
-use Rattle.queue.specs.Promises.{Backed, answerOf, afterFeed, nextWrite, storeOne, storeEach, joined, firstRefusal, answerOfEach, afterEach, FeedPromises}
+use Rattle.queue.specs.Promises.{Backed, answerOf, afterFeed, nextWrite, storeOne, storeEach}
+use Rattle.queue.specs.Promises.{joined, firstRefusal, answerOfEach, afterEach, FeedPromises}
 use Rattle.fifo.proofs.WindowLaws.{ready-true, true-ready, count-below}
-use Rattle.queue.proofs.Moves.{ready-accept, count-accept, places-differ, accept-none, accept-accept, accept-place, accept-straight, accept-round}
+use Rattle.queue.proofs.Moves.{ready-accept, count-accept, places-differ}
+use Rattle.queue.proofs.Moves.{accept-none, accept-accept, accept-place, accept-straight, accept-round}
 use Rattle.queue.proofs.Stretches.{put-straight}
 use Rattle.queue.proofs.FeedLaws.{Fits, accepted-fits, fits-accepted, length-fed, fed-at, fed-other}
 
@@ -59,7 +61,9 @@ module _ (f : Fifo) (ring a b : List ℕ) (fit : Fits f (length ring) (length a 
       let c : countOf (accept f (length a) .window) ≡ countOf (f .window) + length a =
       count-accept f (fit .ready .valid) (length a) (fit-a .room) in
       record {
-        ready = subst (λ (m : ℕ). Ready (accept f (length a)) m) (sym (length-fed f ring a fit-a)) (ready-accept f (length ring) (fit .ready) (length a));
+        ready =
+            subst (λ (m : ℕ). Ready (accept f (length a)) m) (sym (length-fed f ring a fit-a))
+            (ready-accept f (length ring) (fit .ready) (length a));
         room = omega (arith, c, fit .room);
       }
 
@@ -168,23 +172,26 @@ module _ (s : Backed) (a b : List ℕ) where
   cut-long : readyBy (s .fifo) (length (s .ring)) ≡ true → roomOf (s .fifo .window) < length a → Cut
   cut-long e h =
       let n : length (a ++ b) ≡ length a + length b = length-append a b in
-      rw
-      (refused-long (s .fifo) (length (s .ring)) (length (a ++ b)) e (omega arith),
-      refused-long (s .fifo) (length (s .ring)) (length a) e h)
+      rw (
+        refused-long (s .fifo) (length (s .ring)) (length (a ++ b)) e (omega arith),
+        refused-long (s .fifo) (length (s .ring)) (length a) e h,
+      )
 
   cut-fits : Fits (s .fifo) (length (s .ring)) (length a) → Cut
   unfolding fifoAfter ringAfter accept
   cut-fits fit =
       let f : Fifo = s .fifo in
       let n : length (a ++ b) ≡ length a + length b = length-append a b in
-      let c : countOf (accept f (length a) .window) ≡ countOf (f .window) + length a = count-accept f (fit .ready .valid) (length a) (fit .room) in
+      let c : countOf (accept f (length a) .window) ≡ countOf (f .window) + length a =
+      count-accept f (fit .ready .valid) (length a) (fit .room) in
       rw (fits-answered s a fit, fits-accepted f (s .ring) a fit)
       (⊎-elim
       (λ h.
       let both : Fits f (length (s .ring)) (length a + length b) = record { ready = fit .ready; room = h } in
       fits-answered s (a ++ b) (fit-both f (s .ring) a b both) ∙ sym (fits-answered (filled s a) b (fit-b f (s .ring) a b both)))
       (λ h.
-      let none : Fits (accept f (length a)) (length (fed (f .window) (s .ring) a)) 0 = fit-b f (s .ring) a [] (record { ready = fit .ready; room = omega (arith, fit .room) }) in
+      let none : Fits (accept f (length a)) (length (fed (f .window) (s .ring) a)) 0 =
+      fit-b f (s .ring) a [] (record { ready = fit .ready; room = omega (arith, fit .room) }) in
       refused-long f (length (s .ring)) (length (a ++ b)) (true-ready f (length (s .ring)) (fit .ready)) (omega (arith, h)) ∙
       sym
       (refused-long (accept f (length a)) (length (fed (f .window) (s .ring) a)) (length b)
@@ -269,7 +276,8 @@ after-nothing s e =
     after-fits s [] fit ∙
     ap (λ (x : Fifo). record { fifo = x; ring = fed w (s .ring) [] }) (accept-none (s .fifo) (fit .ready .valid)) ∙
     ap (λ (x : List ℕ). record { fifo = s .fifo; ring = x })
-    (sym (put-straight (s .ring) (w .write - w .start) (w .end - w .write) [] (omega arith)) ∙ put-nothing (s .ring) (w .write - w .start))
+    (sym (put-straight (s .ring) (w .write - w .start) (w .end - w .write) [] (omega arith)) ∙
+    put-nothing (s .ring) (w .write - w .start))
 
 -- a feed of one byte
 after-one : (s : Backed) (byte : ℕ) → answerOf s (byte ∷ []) ≡ 0 → afterFeed s (byte ∷ []) ≡ storeOne s byte
@@ -303,7 +311,8 @@ pieces-answer s p (q ∷ qs) =
     cut-answer s p (joined (q ∷ qs)) ∙
     ap (λ (n : ℕ). firstRefusal (answerOf s p) n) (pieces-answer (afterFeed s p) q qs)
 
-pieces-after : (s : Backed) (p : List ℕ) (ps : List (List ℕ)) → answerOf s (joined (p ∷ ps)) ≡ 0 → afterFeed s (joined (p ∷ ps)) ≡ afterEach s (p ∷ ps)
+pieces-after : (s : Backed) (p : List ℕ) (ps : List (List ℕ)) → answerOf s (joined (p ∷ ps)) ≡ 0
+    → afterFeed s (joined (p ∷ ps)) ≡ afterEach s (p ∷ ps)
 unfolding joined afterEach
 pieces-after s p [] e = ap (λ (l : List ℕ). afterFeed s l) (append-nil p)
 pieces-after s p (q ∷ qs) e =

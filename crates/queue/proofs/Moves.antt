@@ -127,11 +127,13 @@ places-differ w p m n l h e =
 
 pub consume-none : (f : Fifo) → Valid (f .window) → consume f 0 ≡ f
 unfolding consume
-consume-none f v = ap (λ (x : ℕ). withWindow f (withRead (f .window) x)) (after-none (f .window) (f .window .read) (omega arith) (omega arith))
+consume-none f v =
+    ap (λ (x : ℕ). withWindow f (withRead (f .window) x)) (after-none (f .window) (f .window .read) (omega arith) (omega arith))
 
 pub accept-none : (f : Fifo) → Valid (f .window) → accept f 0 ≡ f
 unfolding accept
-accept-none f v = ap (λ (x : ℕ). withWindow f (withWrite (f .window) x)) (after-none (f .window) (f .window .write) (omega arith) (omega arith))
+accept-none f v =
+    ap (λ (x : ℕ). withWindow f (withWrite (f .window) x)) (after-none (f .window) (f .window .write) (omega arith) (omega arith))
 
 pub consume-consume : (f : Fifo) (a b : ℕ) → consume (consume f a) b ≡ consume f (a + b)
 unfolding consume

@@ -1,6 +1,7 @@
--- What feeds promise together. Document 02, L7: "copy at most two straight stretches, the second only past the ring's end, from its first byte.
--- State the fed ring by them .. Nothing that a caller can observe may differ, refusal 11 included." Feeding `putRound` are the stretches; here
--- stands that they leave what storing byte after byte leaves, and that a feed may be cut into pieces. Proved in proofs/Feeds `feed-promises`.
+-- What feeds promise together. Document 02, L7: "copy at most two straight stretches, the second only past the ring's end, from its first
+-- byte. State the fed ring by them .. Nothing that a caller can observe may differ, refusal 11 included." The stretches are Feeding
+-- `putRound`; here stands that they leave what storing byte after byte leaves, and that a feed may be cut into pieces. Proved in
+-- proofs/Feeds `feed-promises`.
 use Prim.Native.Nat.{ℕ, _+_, _-_}
 use mathlib.Core.Path.{_≡_}
 use mathlib.Core.Bool.{cond}

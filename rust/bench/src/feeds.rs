@@ -152,7 +152,9 @@ fn compared(load: Load) -> Result<Feeds, String> {
     for feed in 1..=feeds {
         let answer = proved.machine.feed(load.bytes());
         if answer != 0 || !slow.feed(load.bytes()) {
-            return Err(format!("feed {feed} of {bytes} bytes was refused: {answer}"));
+            return Err(format!(
+                "feed {feed} of {bytes} bytes was refused: {answer}"
+            ));
         }
     }
     if proved.machine.lent().ring != slow.lent.ring {

@@ -48,6 +48,9 @@ faults! {
     MarksCleared,
     FeedStoresReadPointer,
     FeedMovesWhenRefused,
+    FirstStretchFromStart,
+    SecondStretchFromWritePointer,
+    StretchLengthsSwapped,
     VertexRestCleared,
     VertexCopiedByWaiting,
     XfWordBeforeIt,
@@ -117,6 +120,35 @@ const OPEN: usize = 7;
 const MASK_WORD: usize = 71 + 0xFE;
 
 pub struct Faulty(pub Fault);
+
+/// Stores bytes from a place on, round the end.
+fn store(ring: &mut [u8], at: usize, bytes: &[u8]) {
+    for (k, &byte) in bytes.iter().enumerate() {
+        ring[(at + k) % ring.len()] = byte;
+    }
+}
+
+/// Takes a feed's bytes back out of the ring and stores them again with a fault
+/// of its two stretches, where there are two.
+fn store_wrongly(fault: Fault, place: usize, before: &[u8], ring: &mut [u8], bytes: &[u8]) {
+    let straight = ring.len() - place;
+    if bytes.len() <= straight {
+        return;
+    }
+    ring.copy_from_slice(before);
+    let (first, second) = bytes.split_at(straight);
+    match fault {
+        Fault::FirstStretchFromStart => {
+            store(ring, 0, first);
+            store(ring, 0, second);
+        }
+        Fault::SecondStretchFromWritePointer => {
+            store(ring, place, first);
+            store(ring, place, second);
+        }
+        _ => store(ring, straight, bytes),
+    }
+}
 
 fn clear_draw(state: &mut StateWords) {
     state[OPEN + 1..=OPEN + 3].fill(0);
@@ -254,8 +286,17 @@ impl Side for Faulty {
 
     fn feed(&self, state: &mut StateWords, ring: &mut [u8], bytes: &[u8]) -> u32 {
         let before = state[WRITE_POINTER];
+        let held = ring.to_vec();
         let answer = Twin.feed(state, ring, bytes);
         match self.0 {
+            Fault::FirstStretchFromStart
+            | Fault::SecondStretchFromWritePointer
+            | Fault::StretchLengthsSwapped
+                if answer == DONE =>
+            {
+                let place = (before - state[START]) as usize;
+                store_wrongly(self.0, place, &held, ring, bytes);
+            }
             Fault::DrawNormalisedByFeed if state[OPEN] == 0 => clear_draw(state),
             Fault::FeedStoresReadPointer if answer == DONE => state[READ_POINTER] = before,
             Fault::FeedMovesWhenRefused if answer == 11 => state[WRITE_POINTER] += 1,
