@@ -3,5 +3,5 @@ pub mod Conserved
 pub mod More
 pub mod Bytes
 pub mod Fed
-pub mod Joined
+pub mod Feeds
 pub mod Passes

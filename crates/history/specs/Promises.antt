@@ -32,7 +32,7 @@ Conserved =
     (w : World) (cs : List Call) → AllHarmless cs
     → countAt (afterAll w cs) + consumedBy (unitsAll w cs) ≡ countAt w + length (fedAll w cs)
 
--- "Answers other than waiting don't change when more bytes are fed." (proofs/Fed, and those below but the last)
+-- "Answers other than waiting don't change when more bytes are fed." (proofs/Fed, and those below but the last two)
 abbrev pub StepFed : Type 0
 StepFed =
     (w : World) (bytes : List ℕ) → Settled (stepFound (w .ring) (w .state))
@@ -73,11 +73,15 @@ StepWords =
     (w : World) (n address : ℕ) (words : List ℕ) → WrittenAlone w (LoadXf n address) words → WordsFit words
     → take n (drop address (stepOf (w .ring) (w .state) .xf)) ≡ words
 
--- Bytes fed in pieces, one call for each: where one feed of them all is accepted, the calls leave the world that it leaves. (proofs/Joined)
+-- pieces that are fed in a row, a call for each, and one feed of all their bytes: all is accepted, and the world left is the same
+pub record FedAlike (w : World) (ps : List (List ℕ)) : Type 0 where
+  pub bytes-are : fedAll w (map feed ps) ≡ joined ps
+  pub world-is : afterAll w (map feed ps) ≡ after w (feed (joined ps))
+
+-- a recording may be fed in pieces: where one feed of all its bytes is accepted (proofs/Feeds)
 abbrev pub FeedsJoined : Type 0
 FeedsJoined =
-    (w : World) (p : List ℕ) (ps : List (List ℕ)) → accepted (w .state .fifo) (w .ring) (joined (p ∷ ps)) ≡ true
-    → afterAll w (map feed (p ∷ ps)) ≡ after w (feed (joined (p ∷ ps)))
+    (w : World) (p : List ℕ) (ps : List (List ℕ)) → accepted (w .state .fifo) (w .ring) (joined (p ∷ ps)) ≡ true → FedAlike w (p ∷ ps)
 
 -- a state that passes 1 to 5 passes them after a run (proofs/Passes)
 abbrev pub RunPasses : Type 0

@@ -10,7 +10,9 @@ use lib.ListN.{length, getD, length-append, List·getD-append}
 use lib.Seq.{ext-getD, getD-append-add}
 use borrow.Author.Tests.{leb-true, le-leb, lt-leb, eqb-true}
 use Rattle.laws.proofs.Cases.{order, tested}
+use Rattle.refusal.specs.declared.Reason.{Reason}
 use Rattle.refusal.specs.declared.Reason.the-variants.{InvalidState, FeedTooLong}
+use Rattle.refusal.specs.Number.{number}
 use Rattle.fifo.specs.declared.Answer.the-variants.{Accepted, Refused}
 use Rattle.fifo.specs.declared.Window.{Window}
 use Rattle.fifo.specs.declared.Fifo.{Fifo}
@@ -73,6 +75,14 @@ module _ (f : Fifo) (ring bytes : List ℕ) (a : Fits f (length ring) (length by
   fed-other j n =
       round-other ring (f .window .write - f .window .start) (f .window .end - f .window .write) bytes turn short j
       (λ i l e. n i l (e ∙ sym (place i)))
+
+  -- a place past the fed bytes keeps its byte
+  pub fed-past : (i : ℕ) → i < sizeOf (f .window) → length bytes ≤ i
+      → getD (fed (f .window) ring bytes) (placeAfter (f .window) (f .window .write) i) 0
+      ≡ getD ring (placeAfter (f .window) (f .window .write) i) 0
+  fed-past i h l =
+      fed-other (placeAfter (f .window) (f .window .write) i)
+      (λ k b e. places-differ (f .window) (f .window .write) k i (omega arith) (omega arith) (sym e))
 
   -- what is fed comes to the end of the queue
   pub pending-fed : pending (accept f (length bytes) .window) (fed (f .window) ring bytes) ≡ pending (f .window) ring ++ bytes
@@ -139,28 +149,45 @@ module _ (f : Fifo) (ring bytes : List ℕ) where
       (λ t. rw t r)
       (tested (accepted f ring bytes))
 
+-- ---- the three answers
+
+pub refused-unready : (f : Fifo) (ring n : ℕ) → readyBy f ring ≡ false → feedRefusal f ring n ≡ 1
+unfolding feedRefusal
+refused-unready f ring n e = rw e
+
+pub refused-long : (f : Fifo) (ring n : ℕ) → Ready f ring → roomOf (f .window) < n → feedRefusal f ring n ≡ 11
+unfolding feedRefusal
+refused-long f ring n r h = rw (true-ready f ring r, lt-leb n (roomOf (f .window)) h)
+
+pub refused-none : (f : Fifo) (ring bytes : List ℕ) → Fits f (length ring) (length bytes) → feedRefusal f (length ring) (length bytes) ≡ 0
+unfolding accepted
+refused-none f ring bytes a = eqb-true (feedRefusal f (length ring) (length bytes)) 0 (fits-accepted f ring bytes a)
+
 -- ---- the three outcomes of the code
+
+refused-same : (f : Fifo) (ring bytes : List ℕ) (r : Reason)
+    → feedRefusal f (length ring) (length bytes) ≡ number r → accepted f ring bytes ≡ false
+    → FedBy f ring bytes (record { fifo = f; answer = Refused r }) ring
+unfolding fifoAfter ringAfter
+refused-same f ring bytes r e t = record { answer-is = ap (λ (n : ℕ). n ∷ []) (sym e); fifo-is = rw t; ring-is = rw t }
 
 pub feed-unready : (f : Fifo) (ring bytes : List ℕ) → readyBy f (length ring) ≡ false
     → FedBy f ring bytes (record { fifo = f; answer = Refused InvalidState }) ring
-unfolding feedRefusal accepted fifoAfter ringAfter
-feed-unready f ring bytes e = record { answer-is = rw e; fifo-is = rw e; ring-is = rw e }
+unfolding accepted
+feed-unready f ring bytes e =
+    let z : feedRefusal f (length ring) (length bytes) ≡ 1 = refused-unready f (length ring) (length bytes) e in
+    refused-same f ring bytes InvalidState z (rw z)
 
 pub feed-long : (f : Fifo) (ring bytes : List ℕ) → Ready f (length ring) → roomOf (f .window) < length bytes
     → FedBy f ring bytes (record { fifo = f; answer = Refused FeedTooLong }) ring
-unfolding feedRefusal accepted fifoAfter ringAfter
-feed-long f ring bytes r h =
-    let e : readyBy f (length ring) ≡ true = true-ready f (length ring) r in
-    let l : leb (length bytes) (roomOf (f .window)) ≡ false = lt-leb (length bytes) (roomOf (f .window)) h in
-    record { answer-is = rw (e, l); fifo-is = rw (e, l); ring-is = rw (e, l) }
-
-none : (f : Fifo) (ring bytes : List ℕ) → accepted f ring bytes ≡ true → feedRefusal f (length ring) (length bytes) ≡ 0
 unfolding accepted
-none f ring bytes t = eqb-true (feedRefusal f (length ring) (length bytes)) 0 t
+feed-long f ring bytes r h =
+    let z : feedRefusal f (length ring) (length bytes) ≡ 11 = refused-long f (length ring) (length bytes) r h in
+    refused-same f ring bytes FeedTooLong z (rw z)
 
 pub feed-fits : (f : Fifo) (ring bytes : List ℕ) → Fits f (length ring) (length bytes) → (g : Fifo) (after : List ℕ)
     → g ≡ accept f (length bytes) → after ≡ fed (f .window) ring bytes → FedBy f ring bytes (record { fifo = g; answer = Accepted }) after
 unfolding fifoAfter ringAfter
 feed-fits f ring bytes a g after p q =
     let t : accepted f ring bytes ≡ true = fits-accepted f ring bytes a in
-    record { answer-is = ap (λ (n : ℕ). n ∷ []) (sym (none f ring bytes t)); fifo-is = rw t p; ring-is = rw t q }
+    record { answer-is = ap (λ (n : ℕ). n ∷ []) (sym (refused-none f ring bytes a)); fifo-is = rw t p; ring-is = rw t q }

@@ -111,7 +111,7 @@ after-none w p l h =
     ap (λ (x : ℕ). w .start + x) (mod-eq-of-lt (omega arith)) ∙
     omega arith
 
--- two moves are one
+-- two moves of a pointer are one
 after-after : (w : Window) (p a b : ℕ) → placeAfter w (w .start + placeAfter w p a) b ≡ placeAfter w p (a + b)
 after-after w p a b =
     let q : p - w .start + a + b ≡ p - w .start + (a + b) = omega arith in
@@ -125,6 +125,7 @@ places-differ w p m n l h e =
     let q : p - w .start + n ≡ p - w .start + m + (n - m) = omega arith in
     mod-distinct (p - w .start + m) (n - m) (sizeOf w) (omega arith) (omega arith) (e ∙ ap (λ (x : ℕ). x % sizeOf w) q)
 
+-- consuming or accepting nothing changes nothing
 pub consume-none : (f : Fifo) → Valid (f .window) → consume f 0 ≡ f
 unfolding consume
 consume-none f v =
@@ -135,6 +136,7 @@ unfolding accept
 accept-none f v =
     ap (λ (x : ℕ). withWindow f (withWrite (f .window) x)) (after-none (f .window) (f .window .write) (omega arith) (omega arith))
 
+-- two moves of one pointer are one
 pub consume-consume : (f : Fifo) (a b : ℕ) → consume (consume f a) b ≡ consume f (a + b)
 unfolding consume
 consume-consume f a b =

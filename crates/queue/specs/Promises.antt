@@ -14,16 +14,16 @@ use Rattle.fifo.specs.Window.{withWindow, withWrite}
 use Rattle.queue.specs.Feeding.{feedRefusal, fifoAfter, ringAfter}
 
 -- a fifo and its ring's bytes: what a feed is handed and leaves
-pub record Backed : Type 0 where
+pub record FifoRing : Type 0 where
   pub fifo : Fifo
   pub ring : List ℕ
 
 -- a feed's answer: 0 where it is accepted, and else its refusal
-abbrev pub answerOf : Backed → List ℕ → ℕ
-answerOf s bytes = feedRefusal (s .fifo) (length (s .ring)) (length bytes)
+abbrev pub feedAnswer : FifoRing → List ℕ → ℕ
+feedAnswer s bytes = feedRefusal (s .fifo) (length (s .ring)) (length bytes)
 
 -- what a feed leaves
-abbrev pub afterFeed : Backed → List ℕ → Backed
+abbrev pub afterFeed : FifoRing → List ℕ → FifoRing
 afterFeed s bytes = record { fifo = fifoAfter (s .fifo) (s .ring) bytes; ring = ringAfter (s .fifo) (s .ring) bytes }
 
 -- ---- byte after byte
@@ -32,8 +32,8 @@ afterFeed s bytes = record { fifo = fifoAfter (s .fifo) (s .ring) bytes; ring = 
 abbrev pub nextWrite : Window → ℕ
 nextWrite w = cond (eqb (w .write + 1) (w .end)) (w .start) (w .write + 1)
 
--- one byte stored at the write pointer
-abbrev pub storeOne : Backed → ℕ → Backed
+-- one byte stored at the write pointer, which then goes one place on
+abbrev pub storeOne : FifoRing → ℕ → FifoRing
 storeOne s byte =
     record {
       fifo = withWindow (s .fifo) (withWrite (s .fifo .window) (nextWrite (s .fifo .window)));
@@ -41,7 +41,7 @@ storeOne s byte =
     }
 
 -- bytes stored one after the other
-unfoldable pub storeEach : Backed → List ℕ → Backed
+unfoldable pub storeEach : FifoRing → List ℕ → FifoRing
 storeEach s [] = s
 storeEach s (b ∷ bs) = storeEach (storeOne s b) bs
 
@@ -52,27 +52,36 @@ unfoldable pub joined : List (List ℕ) → List ℕ
 joined [] = []
 joined (p ∷ ps) = p ++ joined ps
 
--- of two answers in a row the first that is a refusal
+-- bytes as pieces of one byte each
+unfoldable pub singles : List ℕ → List (List ℕ)
+singles [] = []
+singles (b ∷ bs) = (b ∷ []) ∷ singles bs
+
+-- of two answers in a row the first that is a refusal, 0 where neither is
 abbrev pub firstRefusal : ℕ → ℕ → ℕ
 firstRefusal m n = cond (eqb m 0) n m
 
 -- the first refusal of feeds in a row, each handed what the one before it left; 0 where all are accepted
-unfoldable pub answerOfEach : Backed → List (List ℕ) → ℕ
-answerOfEach s [] = 0
-answerOfEach s (p ∷ ps) = firstRefusal (answerOf s p) (answerOfEach (afterFeed s p) ps)
+unfoldable pub feedsAnswer : FifoRing → List (List ℕ) → ℕ
+feedsAnswer s [] = 0
+feedsAnswer s (p ∷ ps) = firstRefusal (feedAnswer s p) (feedsAnswer (afterFeed s p) ps)
 
 -- what they leave
-unfoldable pub afterEach : Backed → List (List ℕ) → Backed
-afterEach s [] = s
-afterEach s (p ∷ ps) = afterEach (afterFeed s p) ps
+unfoldable pub afterFeeds : FifoRing → List (List ℕ) → FifoRing
+afterFeeds s [] = s
+afterFeeds s (p ∷ ps) = afterFeeds (afterFeed s p) ps
 
 pub record FeedPromises : Type 0 where
   -- an accepted feed leaves the fifo and the ring as storing its bytes one after the other leaves them
-  pub byte-by-byte : (s : Backed) (bytes : List ℕ) → answerOf s bytes ≡ 0 → afterFeed s bytes ≡ storeEach s bytes
-  -- a feed cut in two: its answer is the first refusal of the two, and where both are accepted they leave what it leaves
-  pub cut-answer : (s : Backed) (a b : List ℕ) → answerOf s (a ++ b) ≡ firstRefusal (answerOf s a) (answerOf (afterFeed s a) b)
-  pub cut-after : (s : Backed) (a b : List ℕ) → answerOf s (a ++ b) ≡ 0 → afterFeed s (a ++ b) ≡ afterFeed (afterFeed s a) b
+  pub byte-by-byte : (s : FifoRing) (bytes : List ℕ) → feedAnswer s bytes ≡ 0 → afterFeed s bytes ≡ storeEach s bytes
+  -- a refused feed leaves them as they were
+  pub refused-after : (s : FifoRing) (bytes : List ℕ) → (feedAnswer s bytes ≡ 0 → ⊥) → afterFeed s bytes ≡ s
+  -- a feed cut in two: its answer is the first refusal of the two, and where it is accepted they leave what it leaves
+  pub cut-answer : (s : FifoRing) (a b : List ℕ) → feedAnswer s (a ++ b) ≡ firstRefusal (feedAnswer s a) (feedAnswer (afterFeed s a) b)
+  pub cut-after : (s : FifoRing) (a b : List ℕ) → feedAnswer s (a ++ b) ≡ 0 → afterFeed s (a ++ b) ≡ afterFeed (afterFeed s a) b
   -- the same of one or more pieces, of any lengths
-  pub pieces-answer : (s : Backed) (p : List ℕ) (ps : List (List ℕ)) → answerOf s (joined (p ∷ ps)) ≡ answerOfEach s (p ∷ ps)
-  pub pieces-after : (s : Backed) (p : List ℕ) (ps : List (List ℕ)) → answerOf s (joined (p ∷ ps)) ≡ 0
-      → afterFeed s (joined (p ∷ ps)) ≡ afterEach s (p ∷ ps)
+  pub pieces-answer : (s : FifoRing) (p : List ℕ) (ps : List (List ℕ)) → feedAnswer s (joined (p ∷ ps)) ≡ feedsAnswer s (p ∷ ps)
+  pub pieces-after : (s : FifoRing) (p : List ℕ) (ps : List (List ℕ)) → feedAnswer s (joined (p ∷ ps)) ≡ 0
+      → afterFeed s (joined (p ∷ ps)) ≡ afterFeeds s (p ∷ ps)
+  -- the answer, 1 and 11 too, is the first refusal of a feed for each byte
+  pub byte-answer : (s : FifoRing) (b : ℕ) (bs : List ℕ) → feedAnswer s (b ∷ bs) ≡ feedsAnswer s (singles (b ∷ bs))

@@ -22,7 +22,7 @@ pub(crate) fn store(ring: &mut [u8], at: usize, bytes: &[u8])
 
 // Stores bytes from a place on and, past the ring's end, which is `straight` bytes on, from its start.
 fn store_round(ring: &mut [u8], at: usize, straight: usize, bytes: &[u8])
-    requires { ⌜ (at + straight ≡ length (now ring)) × (length (now bytes) ≤ length (now ring)) ⌝ }
+    requires { ⌜ (at + straight ≡ length (now ring)) × (length (now bytes) < length (now ring)) ⌝ }
     ensures { λ _. ⌜ now (ring .exit) ≡ putRound (now (ring .entry)) at straight (now (bytes .entry)) ⌝ }
 {
     if bytes.len() <= straight {

@@ -8,10 +8,13 @@ use crate::timing::Side;
 use std::hint::black_box;
 use std::rc::Rc;
 
-/// Bytes of a feed; the last fills the ring and wraps.
+/// Bytes of a feed. Feeds of 16 bytes and more go round the ring's end once in a
+/// timed part; the last is one feed that fills the ring.
 const SIZES: [usize; 6] = [1, 16, 64, 256, 4096, RING - 1];
 /// The most feeds of one timed part.
 const MOST: usize = 4096;
+/// The state word of the write pointer.
+const WRITE: usize = 4;
 /// Where the first byte goes, counted from the ring's start.
 const PLACE: usize = (POINTER - START) as usize;
 
@@ -26,6 +29,7 @@ pub struct Feeds {
 /// What is fed, and how often: the same bytes at the same address for all.
 #[derive(Clone)]
 struct Load {
+    /// Its ring holds the bytes, aligned as a ring.
     source: Rc<Lent>,
     bytes: usize,
     feeds: usize,
@@ -60,7 +64,7 @@ impl Side for ProvedFeeds {
 #[repr(align(4096))]
 struct Straight([u8; 2 * RING]);
 
-/// Copies to the places of the feeds, one after the other.
+/// Copies one after the other, straight on from the place of the first feed.
 struct Copies {
     load: Load,
     out: Box<Straight>,
@@ -82,7 +86,9 @@ impl Side for Copies {
     }
 }
 
-/// A ring that is never read, and so has room while fewer than its size are in.
+/// A feed byte after byte in plain Rust, written to be timed: it tests 11 alone,
+/// and keeps its write pointer and count as two numbers, no state words. Nothing
+/// reads the ring, so the count only grows.
 struct ByteAfterByte {
     load: Load,
     lent: Box<Lent>,
@@ -124,7 +130,7 @@ impl Side for ByteAfterByte {
     }
 }
 
-/// Every size, once the proved feed and the one byte after byte gave the same.
+/// Every size, once the proved feed and the one byte after byte left the same.
 pub fn feeds() -> Result<Vec<Feeds>, String> {
     let mut source = Lent::new();
     source.ring.copy_from_slice(&Random::new(8).bytes(RING));
@@ -143,7 +149,7 @@ fn compared(load: Load) -> Result<Feeds, String> {
         load: load.clone(),
         machine: empty(),
     };
-    let mut slow = ByteAfterByte {
+    let mut by_bytes = ByteAfterByte {
         load: load.clone(),
         lent: Lent::new(),
         write: PLACE,
@@ -151,13 +157,21 @@ fn compared(load: Load) -> Result<Feeds, String> {
     };
     for feed in 1..=feeds {
         let answer = proved.machine.feed(load.bytes());
-        if answer != 0 || !slow.feed(load.bytes()) {
+        if answer != 0 {
+            return Err(format!("feed {feed} of {bytes} bytes: refusal {answer}"));
+        }
+        if !by_bytes.feed(load.bytes()) {
             return Err(format!(
-                "feed {feed} of {bytes} bytes was refused: {answer}"
+                "feed {feed} of {bytes} bytes, byte after byte: no room"
             ));
         }
     }
-    if proved.machine.lent().ring != slow.lent.ring {
+    if proved.machine.state_words()[WRITE] != START + by_bytes.write as u32 {
+        return Err(format!(
+            "the write pointers after feeds of {bytes} bytes differ"
+        ));
+    }
+    if proved.machine.lent().ring != by_bytes.lent.ring {
         return Err(format!("the rings after feeds of {bytes} bytes differ"));
     }
     let copies = Copies {
@@ -167,6 +181,6 @@ fn compared(load: Load) -> Result<Feeds, String> {
     Ok(Feeds {
         bytes,
         feeds,
-        sides: [Box::new(proved), Box::new(copies), Box::new(slow)],
+        sides: [Box::new(proved), Box::new(copies), Box::new(by_bytes)],
     })
 }

@@ -1,5 +1,6 @@
-//! Times the proved library beside the implementation in plain Rust and prints
-//! markdown tables. Nothing is timed before both gave the same on every row.
+//! Times the proved library beside the implementation in plain Rust, and its feed
+//! beside a bare copy and beside a feed byte after byte, and prints markdown tables.
+//! Nothing is timed before what is compared was the same.
 #![forbid(unsafe_code)]
 
 mod feeds;
@@ -50,7 +51,7 @@ fn main() -> ExitCode {
             ExitCode::SUCCESS
         }
         Err(what) => {
-            eprintln!("The two implementations were not the same, so nothing was timed. {what}");
+            eprintln!("Not the same, so nothing was timed: {what}");
             ExitCode::FAILURE
         }
     }
@@ -59,11 +60,12 @@ fn main() -> ExitCode {
 fn print_preface(plan: &Plan) {
     println!(
         "Compared before timing, on the input of every row of the first two tables: each answer, the units \
-         done, and the state words, ring, XF words and vertex buffer left. All were the same."
+         done, and the state words, ring, XF words and vertex buffer left; of the third: that every feed \
+         was accepted, and the write pointer and ring left, with the feed byte after byte. All were the same."
     );
     println!();
     println!(
-        "Medians of {} pairs, each side at least {} µs; an empty timed part takes {:.0} ns.",
+        "Medians of {} repetitions, each side at least {} µs; an empty timed part takes {:.0} ns.",
         plan.repetitions,
         plan.least.as_micros(),
         clock_cost()
@@ -123,7 +125,7 @@ fn print_lengths(streams: [Lengths; 2], plan: &Plan) {
 /// The third table. The three sides of a size are timed in turn.
 fn print_feeds(sizes: Vec<Feeds>, plan: &Plan) {
     println!();
-    println!("| bytes of a feed | feeds | proved feed, ns | bare copy, ns | ratio | beyond the copy, ns | byte after byte, ns | ratio |");
+    println!("| bytes of a feed | feeds | proved, ns | bare copy, ns | proved to copy | proved beyond copy, ns | byte after byte, ns | proved to it |");
     println!("|---:|---:|---:|---:|---:|---:|---:|---:|");
     for mut size in sizes {
         let times = in_turn(&mut size.sides, plan);

@@ -1,4 +1,4 @@
-//! The rows of both tables.
+//! The rows of the first two tables.
 
 use crate::formats::{LONGEST, ONE_BYTE, TWELVE_BYTES};
 use crate::machine::RING;

@@ -1,6 +1,8 @@
 //! Document 02's L7, of the proved library and of the twin, in a ring of 256
-//! bytes from every place and with every length: a feed leaves what storing byte
-//! after byte leaves, and a feed that is cut in two has the answer of the whole.
+//! bytes. From every place and with every length a feed leaves what storing byte
+//! after byte leaves, or is refused by 11 and leaves all as it was. From some
+//! places, with every length and every cut, a feed cut in two has the answer of the
+//! whole and, where that is accepted, leaves what it leaves.
 #![forbid(unsafe_code)]
 
 use compare::side::{Proved, Side, Twin};
@@ -9,8 +11,10 @@ use model::words::{StateWords, DONE, STATE_WORDS};
 
 const START: u32 = 0x1000;
 const SIZE: usize = 256;
-/// Bytes that wait already: none, some, all but one place, all.
+/// Bytes that wait already: none, one, some, one less than fill the ring, as many
+/// as fill it.
 const WAITING: [usize; 5] = [0, 1, 100, SIZE - 2, SIZE - 1];
+const INVALID: u32 = 1;
 const TOO_LONG: u32 = 11;
 
 /// The state words and the ring's bytes.
@@ -51,9 +55,9 @@ impl Fed {
     }
 }
 
-/// Bytes that differ from their neighbours, and from those a ring apart.
+/// As many bytes as the ring has, no two the same.
 fn bytes() -> Vec<u8> {
-    (0..=SIZE).map(|at| (at * 7 + at / 64 + 3) as u8).collect()
+    (0..SIZE).map(|at| (at * 7 + 3) as u8).collect()
 }
 
 fn sides() -> [Box<dyn Side>; 2] {
@@ -106,6 +110,26 @@ fn a_feed_may_be_cut() {
                             assert!(pieces == whole, "{}: cut at {cut} of {length}", side.name());
                         }
                     }
+                }
+            }
+        }
+    }
+}
+
+/// A window that breaks the rules is refused by 1, the whole and its pieces, also
+/// a feed of no bytes.
+#[test]
+fn a_broken_window_is_refused() {
+    let bytes = bytes();
+    for side in sides() {
+        let mut start = Fed::new(&*side, 100, 0);
+        start.state[word::END] -= 1;
+        for length in [0, 1, SIZE] {
+            for cut in [0, length / 2, length] {
+                for piece in [&bytes[..length], &bytes[..cut], &bytes[cut..length]] {
+                    let mut fed = start.clone();
+                    assert_eq!(fed.feed(&*side, piece), INVALID);
+                    assert!(fed == start);
                 }
             }
         }

@@ -50,7 +50,8 @@ faults! {
     FeedMovesWhenRefused,
     FirstStretchFromStart,
     SecondStretchFromWritePointer,
-    StretchLengthsSwapped,
+    StretchesSwapped,
+    PlaceAndLengthSwapped,
     VertexRestCleared,
     VertexCopiedByWaiting,
     XfWordBeforeIt,
@@ -146,7 +147,12 @@ fn store_wrongly(fault: Fault, place: usize, before: &[u8], ring: &mut [u8], byt
             store(ring, place, first);
             store(ring, place, second);
         }
-        _ => store(ring, straight, bytes),
+        Fault::StretchesSwapped => {
+            store(ring, 0, first);
+            store(ring, place, second);
+        }
+        Fault::PlaceAndLengthSwapped => store(ring, straight, bytes),
+        _ => unreachable!("{fault:?} is none of a feed's stretches"),
     }
 }
 
@@ -291,7 +297,8 @@ impl Side for Faulty {
         match self.0 {
             Fault::FirstStretchFromStart
             | Fault::SecondStretchFromWritePointer
-            | Fault::StretchLengthsSwapped
+            | Fault::StretchesSwapped
+            | Fault::PlaceAndLengthSwapped
                 if answer == DONE =>
             {
                 let place = (before - state[START]) as usize;
