@@ -78,7 +78,7 @@ pub record FedAlike (w : World) (ps : List (List ℕ)) : Type 0 where
   pub bytes-are : fedAll w (map feed ps) ≡ joined ps
   pub world-is : afterAll w (map feed ps) ≡ after w (feed (joined ps))
 
--- a recording may be fed in pieces: where one feed of all its bytes is accepted (proofs/Feeds)
+-- where a feed is accepted it may be cut into one or more pieces (proofs/Feeds)
 abbrev pub FeedsJoined : Type 0
 FeedsJoined =
     (w : World) (p : List ℕ) (ps : List (List ℕ)) → accepted (w .state .fifo) (w .ring) (joined (p ∷ ps)) ≡ true → FedAlike w (p ∷ ps)
