@@ -1,4 +1,4 @@
--- Feeds in a row, as calls: they leave what one feed of all their bytes leaves.
+-- Feeds in a row, as calls: they leave what one feed of all their bytes leaves, where that one is accepted.
 use mathlib.Core.Path.{_≡_, refl, sym, ap, _∙_}
 use mathlib.Core.List.{List, [], _∷_, _++_, map}
 use Prim.Native.Nat.{ℕ}

@@ -73,12 +73,12 @@ StepWords =
     (w : World) (n address : ℕ) (words : List ℕ) → WrittenAlone w (LoadXf n address) words → WordsFit words
     → take n (drop address (stepOf (w .ring) (w .state) .xf)) ≡ words
 
--- pieces that are fed in a row, a call for each, and one feed of all their bytes: all is accepted, and the world left is the same
+-- pieces that are fed in a row, a call for each, and one feed of all their bytes: every byte is accepted, and the world left is the same
 pub record FedAlike (w : World) (ps : List (List ℕ)) : Type 0 where
   pub bytes-are : fedAll w (map feed ps) ≡ joined ps
   pub world-is : afterAll w (map feed ps) ≡ after w (feed (joined ps))
 
--- where a feed is accepted it may be cut into one or more pieces (proofs/Feeds)
+-- where a feed is accepted, it may be cut into one or more pieces (proofs/Feeds)
 abbrev pub FeedsJoined : Type 0
 FeedsJoined =
     (w : World) (p : List ℕ) (ps : List (List ℕ)) → accepted (w .state .fifo) (w .ring) (joined (p ∷ ps)) ≡ true → FedAlike w (p ∷ ps)

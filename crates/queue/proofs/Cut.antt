@@ -16,7 +16,7 @@ use Rattle.queue.specs.Feeding.{fed}
 use Rattle.queue.proofs.Moves.{ready-accept, count-accept, places-differ, accept-place}
 use Rattle.queue.proofs.FeedLaws.{Fits, length-fed, fed-at, fed-other, fed-past}
 
--- ---- which place of the ring a place is, counted from the write pointer
+-- ---- how many places past the write pointer a place of the ring is, going round
 
 record Reached (at size j : ℕ) : Type 0 where
   steps : ℕ
@@ -64,7 +64,7 @@ module _ (f : Fifo) (ring a b : List ℕ) (fit : Fits f (length ring) (length a 
   length-cut : length (fed (g .window) (fed w ring a) b) ≡ length ring
   length-cut = length-fed g (fed w ring a) b fit-b ∙ length-fed f ring a fit-a
 
-  -- byte k of b goes to its place from the first write pointer
+  -- byte k of b goes where byte length a + k would go from the write pointer before both feeds
   place-b : (k : ℕ) → placeAfter (g .window) (g .window .write) k ≡ placeAfter w (w .write) (length a + k)
   place-b k = accept-place f (length a) k
 

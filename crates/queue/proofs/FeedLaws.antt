@@ -165,25 +165,26 @@ refused-none f ring bytes a = eqb-true (feedRefusal f (length ring) (length byte
 
 -- ---- the three outcomes of the code
 
-refused-same : (f : Fifo) (ring bytes : List ℕ) (r : Reason)
+-- a refused feed gives back what it was handed
+refused-keeps : (f : Fifo) (ring bytes : List ℕ) (r : Reason)
     → feedRefusal f (length ring) (length bytes) ≡ number r → accepted f ring bytes ≡ false
     → FedBy f ring bytes (record { fifo = f; answer = Refused r }) ring
 unfolding fifoAfter ringAfter
-refused-same f ring bytes r e t = record { answer-is = ap (λ (n : ℕ). n ∷ []) (sym e); fifo-is = rw t; ring-is = rw t }
+refused-keeps f ring bytes r e t = record { answer-is = ap (λ (n : ℕ). n ∷ []) (sym e); fifo-is = rw t; ring-is = rw t }
 
 pub feed-unready : (f : Fifo) (ring bytes : List ℕ) → readyBy f (length ring) ≡ false
     → FedBy f ring bytes (record { fifo = f; answer = Refused InvalidState }) ring
 unfolding accepted
 feed-unready f ring bytes e =
     let z : feedRefusal f (length ring) (length bytes) ≡ 1 = refused-unready f (length ring) (length bytes) e in
-    refused-same f ring bytes InvalidState z (rw z)
+    refused-keeps f ring bytes InvalidState z (rw z)
 
 pub feed-long : (f : Fifo) (ring bytes : List ℕ) → Ready f (length ring) → roomOf (f .window) < length bytes
     → FedBy f ring bytes (record { fifo = f; answer = Refused FeedTooLong }) ring
 unfolding accepted
 feed-long f ring bytes r h =
     let z : feedRefusal f (length ring) (length bytes) ≡ 11 = refused-long f (length ring) (length bytes) r h in
-    refused-same f ring bytes FeedTooLong z (rw z)
+    refused-keeps f ring bytes FeedTooLong z (rw z)
 
 pub feed-fits : (f : Fifo) (ring bytes : List ℕ) → Fits f (length ring) (length bytes) → (g : Fifo) (after : List ℕ)
     → g ≡ accept f (length bytes) → after ≡ fed (f .window) ring bytes → FedBy f ring bytes (record { fifo = g; answer = Accepted }) after

@@ -1,4 +1,4 @@
--- Feeds in a row: two straight stretches are what storing byte after byte gives, and a feed may be cut into pieces.
+-- Feeds in a row: two straight stretches leave what storing byte after byte leaves, and a feed may be cut into pieces.
 use Prim.Native.Nat.{ℕ, suc, _+_, _-_, _<_}
 use mathlib.Core.Path.{_≡_, refl, sym, ap, subst, _∙_}
 use mathlib.Core.Logic.{⊎-elim}
@@ -217,14 +217,21 @@ byte-answer : (s : FifoRing) (b : ℕ) (bs : List ℕ) → feedAnswer s (b ∷ b
 unfolding singles
 byte-answer s b bs = ap (λ (l : List ℕ). feedAnswer s l) (sym (joined-singles (b ∷ bs))) ∙ pieces-answer s (b ∷ []) (singles bs)
 
+byte-after : (s : FifoRing) (b : ℕ) (bs : List ℕ) → feedAnswer s (b ∷ bs) ≡ 0 → afterFeed s (b ∷ bs) ≡ afterFeeds s (singles (b ∷ bs))
+unfolding singles
+byte-after s b bs e =
+    let j : joined (singles (b ∷ bs)) ≡ b ∷ bs = joined-singles (b ∷ bs) in
+    ap (λ (l : List ℕ). afterFeed s l) (sym j) ∙ pieces-after s (b ∷ []) (singles bs) (ap (λ (l : List ℕ). feedAnswer s l) j ∙ e)
+
 pub feed-promises : FeedPromises
 feed-promises =
     record {
-      byte-by-byte = by-bytes;
+      byte-after-byte = by-bytes;
       refused-after = refused-after;
       cut-answer = cut-answer;
       cut-after = cut-after;
       pieces-answer = pieces-answer;
       pieces-after = pieces-after;
       byte-answer = byte-answer;
+      byte-after = byte-after;
     }

@@ -73,7 +73,7 @@ afterFeeds s (p ∷ ps) = afterFeeds (afterFeed s p) ps
 
 pub record FeedPromises : Type 0 where
   -- an accepted feed leaves the fifo and the ring as storing its bytes one after the other leaves them
-  pub byte-by-byte : (s : FifoRing) (bytes : List ℕ) → feedAnswer s bytes ≡ 0 → afterFeed s bytes ≡ storeEach s bytes
+  pub byte-after-byte : (s : FifoRing) (bytes : List ℕ) → feedAnswer s bytes ≡ 0 → afterFeed s bytes ≡ storeEach s bytes
   -- a refused feed leaves them as they were
   pub refused-after : (s : FifoRing) (bytes : List ℕ) → (feedAnswer s bytes ≡ 0 → ⊥) → afterFeed s bytes ≡ s
   -- a feed cut in two: its answer is the first refusal of the two, and where it is accepted they leave what it leaves
@@ -85,3 +85,6 @@ pub record FeedPromises : Type 0 where
       → afterFeed s (joined (p ∷ ps)) ≡ afterFeeds s (p ∷ ps)
   -- the answer, 1 and 11 too, is the first refusal of a feed for each byte
   pub byte-answer : (s : FifoRing) (b : ℕ) (bs : List ℕ) → feedAnswer s (b ∷ bs) ≡ feedsAnswer s (singles (b ∷ bs))
+  -- and where it is accepted those feeds leave what it leaves
+  pub byte-after : (s : FifoRing) (b : ℕ) (bs : List ℕ) → feedAnswer s (b ∷ bs) ≡ 0
+      → afterFeed s (b ∷ bs) ≡ afterFeeds s (singles (b ∷ bs))

@@ -1,4 +1,4 @@
-// Feeding bytes at the write pointer, in two straight stretches.
+// Feeding bytes at the write pointer, in at most two straight stretches.
 use fifo::Answer;
 use fifo::Changed;
 use fifo::Fifo;

@@ -60,8 +60,9 @@ fn main() -> ExitCode {
 fn print_preface(plan: &Plan) {
     println!(
         "Compared before timing, on the input of every row of the first two tables: each answer, the units \
-         done, and the state words, ring, XF words and vertex buffer left; of the third: that every feed \
-         was accepted, and the write pointer and ring left, with the feed byte after byte. All were the same."
+         done, and the state words, ring, XF words and vertex buffer left; all were the same. Of the third: \
+         every feed was accepted, and the proved feed and the one byte after byte left the same write pointer \
+         and ring."
     );
     println!();
     println!(

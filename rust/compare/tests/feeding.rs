@@ -2,7 +2,8 @@
 //! bytes. From every place and with every length a feed leaves what storing byte
 //! after byte leaves, or is refused by 11 and leaves all as it was. From some
 //! places, with every length and every cut, a feed cut in two has the answer of the
-//! whole and, where that is accepted, leaves what it leaves.
+//! whole and, where that is accepted, leaves what it leaves. A window that breaks the
+//! rules is refused by 1, and nothing changes.
 #![forbid(unsafe_code)]
 
 use compare::side::{Proved, Side, Twin};
