@@ -10,7 +10,8 @@ use Rattle.octets.specs.BigEndian.{Octets}
 use Rattle.command.specs.Command.{Found, unit, waiting, refused}
 use Rattle.fifo.specs.declared.Fifo.{Fifo}
 use Rattle.fifo.specs.Registers.{writable, writeAnswer, written}
-use Rattle.queue.specs.Feeding.{feedRefusal, accepted, fifoAfter, ringAfter}
+use Rattle.queue.specs.Feeding.{accepted, fifoAfter, ringAfter}
+use Rattle.queue.proofs.FeedLaws.{refused-left}
 use Rattle.processor.specs.State.{State}
 use Rattle.processor.specs.Step.{after, stepFound, stepOf}
 use Rattle.running.specs.Run.{runOf}
@@ -29,11 +30,6 @@ write-kept : (f : Fifo) (offset value : ℕ) (b : Bool) → writable offset ≡ 
 unfolding written writeAnswer
 write-kept f offset value true w e = absurd (false≢true (sym e ∙ ap (λ (x : Bool). eqb (firstOf (cond x (0 ∷ []) (17 ∷ []))) 0) w))
 write-kept f offset value false w e = rw w
-
-feed-kept : (f : Fifo) (ring bytes : List ℕ) → eqb (feedRefusal f (length ring) (length bytes)) 0 ≡ false
-    → (fifoAfter f ring bytes ≡ f) × (ringAfter f ring bytes ≡ ring)
-unfolding accepted fifoAfter ringAfter
-feed-kept f ring bytes e = (rw e, rw e)
 
 step-kept : (ring : List ℕ) (s : State) (found : Found) → eqb (stepNumber found) 0 ≡ false → after ring s found ≡ s
 step-kept ring s (unit c m n) e = absurd (false≢true (sym e))
@@ -55,7 +51,8 @@ module _ (words xf vertex : List ℕ) where
 
   module _ (ring bytes : List ℕ) (r : ℕ) (words' ring' : List ℕ) (h : Feeds words ring bytes r words' ring') where
     kept : eqb r 0 ≡ false → (fifoAfter (fifoOf words) ring bytes ≡ fifoOf words) × (ringAfter (fifoOf words) ring bytes ≡ ring)
-    kept e = feed-kept (fifoOf words) ring bytes (ap (λ (n : ℕ). eqb n 0) (sym (h .answer-is)) ∙ e)
+    unfolding accepted
+    kept e = refused-left (fifoOf words) ring bytes (ap (λ (n : ℕ). eqb n 0) (sym (h .answer-is)) ∙ e)
 
     ring-fed : (b : Bool) → eqb r 0 ≡ b → ring' ≡ ringAfter (fifoOf words) ring bytes
     ring-fed true e = rw e at (h .ring-is)

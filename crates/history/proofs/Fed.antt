@@ -1,7 +1,6 @@
 -- The promises over feeds and steps, of the machine: answers that more bytes don't change, a full ring that never waits, a written command
 -- that is stepped.
-use mathlib.Core.Path.{_≡_, refl, sym, _∙_}
-use mathlib.Core.Bool.{false}
+use mathlib.Core.Path.{_≡_, refl, sym, ap₂, _∙_}
 use mathlib.Core.Logic.{⊎-elim}
 use mathlib.Core.List.{List, [], _++_, append-nil}
 use Prim.Native.Nat.{ℕ, zero, suc, _+_, _-_}
@@ -22,7 +21,7 @@ use Rattle.fifo.specs.declared.Fifo.{Fifo}
 use Rattle.fifo.specs.Window.{readyBy, countOf}
 use Rattle.queue.specs.Feeding.{accepted, bytesAccepted, fifoAfter, ringAfter}
 use Rattle.fifo.proofs.WindowLaws.{true-ready}
-use Rattle.queue.proofs.FeedLaws.{Fits, accepted-fits, pending-after, ready-after}
+use Rattle.queue.proofs.FeedLaws.{Fits, accepted-fits, pending-after, ready-after, refused-left}
 use Rattle.queue.proofs.Pending.{length-pending}
 use Rattle.fifo.specs.Window.{accept}
 use Rattle.processor.specs.State.{State}
@@ -36,11 +35,6 @@ use Rattle.history.proofs.Bytes.{fed-octets}
 use Rattle.history.proofs.More.{step-longer, run-longer}
 
 -- ---- a feed makes the queue longer, and leaves 1 to 5
-refused-same : (f : Fifo) (ring bytes : List ℕ) → accepted f ring bytes ≡ false
-    → readyBy (fifoAfter f ring bytes) (length (ringAfter f ring bytes)) ≡ readyBy f (length ring)
-unfolding fifoAfter ringAfter
-refused-same f ring bytes t = rw t
-
 ready-same : (f : Fifo) (ring bytes : List ℕ) → readyBy (fifoAfter f ring bytes) (length (ringAfter f ring bytes)) ≡ readyBy f (length ring)
 ready-same f ring bytes =
     ⊎-elim
@@ -48,7 +42,9 @@ ready-same f ring bytes =
     let a : Fits f (length ring) (length bytes) = accepted-fits f ring bytes t in
     true-ready (fifoAfter f ring bytes) (length (ringAfter f ring bytes)) (ready-after f ring bytes (a .ready))
     ∙ sym (true-ready f (length ring) (a .ready)))
-    (refused-same f ring bytes)
+    (λ t.
+    let l = refused-left f ring bytes t in
+    ap₂ (λ (g : Fifo) (r : List ℕ). readyBy g (length r)) (l .0) (l .1))
     (tested (accepted f ring bytes))
 
 control-same : (f : Fifo) (ring bytes : List ℕ) → fifoAfter f ring bytes .control ≡ f .control

@@ -165,12 +165,19 @@ refused-none f ring bytes a = eqb-true (feedRefusal f (length ring) (length byte
 
 -- ---- the three outcomes of the code
 
+-- "The refused call .. changes nothing"
+pub refused-left : (f : Fifo) (ring bytes : List ℕ) → accepted f ring bytes ≡ false
+    → (fifoAfter f ring bytes ≡ f) × (ringAfter f ring bytes ≡ ring)
+unfolding fifoAfter ringAfter
+refused-left f ring bytes t = (rw t, rw t)
+
 -- a refused feed gives back what it was handed
 refused-keeps : (f : Fifo) (ring bytes : List ℕ) (r : Reason)
     → feedRefusal f (length ring) (length bytes) ≡ number r → accepted f ring bytes ≡ false
     → FedBy f ring bytes (record { fifo = f; answer = Refused r }) ring
-unfolding fifoAfter ringAfter
-refused-keeps f ring bytes r e t = record { answer-is = ap (λ (n : ℕ). n ∷ []) (sym e); fifo-is = rw t; ring-is = rw t }
+refused-keeps f ring bytes r e t =
+    let l = refused-left f ring bytes t in
+    record { answer-is = ap (λ (n : ℕ). n ∷ []) (sym e); fifo-is = sym (l .0); ring-is = sym (l .1) }
 
 pub feed-unready : (f : Fifo) (ring bytes : List ℕ) → readyBy f (length ring) ≡ false
     → FedBy f ring bytes (record { fifo = f; answer = Refused InvalidState }) ring

@@ -1,6 +1,6 @@
 -- Feeds in a row: two straight stretches leave what storing byte after byte leaves, and a feed may be cut into pieces.
 use Prim.Native.Nat.{ℕ, suc, _+_, _-_, _<_}
-use mathlib.Core.Path.{_≡_, refl, sym, ap, subst, _∙_}
+use mathlib.Core.Path.{_≡_, refl, sym, ap, ap₂, subst, _∙_}
 use mathlib.Core.Logic.{⊎-elim}
 use mathlib.Core.Bool.{false}
 use mathlib.Core.List.{List, [], _∷_, _++_, append-nil}
@@ -10,7 +10,7 @@ use native.Mathlib.Omega.{arith}
 use lib.Dec.{eqb}
 use lib.ListN.{length, set, take, drop, length-append, take-append-drop}
 use lib.Seq.{set-split, append-snoc}
-use borrow.Author.Tests.{eqb-true, eqb-false}
+use borrow.Author.Tests.{eqb-true, eqb-false, ne-eqb}
 use Rattle.laws.proofs.Cases.{order, tested, cond-both}
 use Rattle.fifo.specs.declared.Window.{Window}
 use Rattle.fifo.specs.declared.Fifo.{Fifo}
@@ -22,6 +22,7 @@ use Rattle.fifo.proofs.WindowLaws.{ready-true, count-below}
 use Rattle.queue.proofs.Moves.{count-accept, accept-none, accept-accept, accept-straight, accept-round}
 use Rattle.queue.proofs.Stretches.{put-straight}
 use Rattle.queue.proofs.FeedLaws.{Fits, accepted-fits, fits-accepted, refused-unready, refused-long, refused-none}
+use Rattle.queue.proofs.FeedLaws.{refused-left}
 use Rattle.queue.proofs.Cut.{fit-a, fit-b, fit-both, fed-cut}
 
 -- ---- answers
@@ -185,12 +186,10 @@ by-bytes s (b ∷ bs) e =
     ap (λ (t : FifoRing). storeEach t bs) (after-one s b (parts .0))
 
 refused-after : (s : FifoRing) (bytes : List ℕ) → (feedAnswer s bytes ≡ 0 → ⊥) → afterFeed s bytes ≡ s
-unfolding accepted fifoAfter ringAfter
+unfolding accepted
 refused-after s bytes n =
-    ⊎-elim
-    (λ t. absurd (n (eqb-true (feedAnswer s bytes) 0 t)))
-    (λ t. rw t)
-    (tested (eqb (feedAnswer s bytes) 0))
+    let l = refused-left (s .fifo) (s .ring) bytes (ne-eqb (feedAnswer s bytes) 0 n) in
+    ap₂ (λ (f : Fifo) (r : List ℕ). record { fifo = f; ring = r }) (l .0) (l .1)
 
 -- ---- pieces
 
