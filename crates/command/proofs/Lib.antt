@@ -5,6 +5,7 @@ pub mod Ranges
 pub mod Extends
 pub mod Prefix
 pub mod Promises
+pub mod Waiting
 pub mod Arrays
 pub mod Meanings
 pub mod Decided

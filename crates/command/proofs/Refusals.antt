@@ -4,6 +4,7 @@ use mathlib.Core.List.{[], _∷_}
 use mathlib.Core.Bool.{cond}
 use Prim.Native.Nat.{ℕ, zero, suc, _-_, _≤_}
 use native.Mathlib.Nat.{not-suc-le-zero}
+use native.Mathlib.Omega.{arith}
 use lib.Dec.{ltb}
 use borrow.Author.Tests.{le-ltb}
 use Rattle.refusal.specs.Number.{number}
@@ -31,3 +32,8 @@ pub unless-accepted : (n : ℕ) (found : Found) → 0 ∷ [] ≡ n ∷ [] → fo
 unless-accepted n found e =
     let k : 0 ≡ n = cc in
     ap (λ (x : ℕ). unlessRefused x found) k
+
+-- an answer that waits is not refused
+pub unless-waiting : (r : ℕ) (x : Found) (k : ℕ) → unlessRefused r x ≡ waiting k → (r ≡ 0) × (x ≡ waiting k)
+unless-waiting zero x k e = (refl, e)
+unless-waiting (suc r) x k e = let z : _≡_ {A = ℕ} 0 1 = cc in absurd (omega (arith, z))

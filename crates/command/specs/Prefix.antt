@@ -1,9 +1,11 @@
 -- "Answers other than waiting don't change when more bytes are fed": how the answers at fewer and at more bytes go together.
 use mathlib.Core.Path.{_≡_}
+use mathlib.Core.Bool.{cond, _&&_}
 use mathlib.Core.Logic.{_⊎_}
-use mathlib.Core.List.{List}
+use mathlib.Core.List.{List, [], _∷_}
 use Prim.Native.Nat.{ℕ, _+_, _*_, _<_, _≤_}
-use lib.ListN.{getD}
+use lib.Dec.{ltb, eqb}
+use lib.ListN.{length, getD}
 use Rattle.command.specs.declared.Draw.{Draw}
 use Rattle.command.specs.declared.Draw.the-variants.{Closed, Open}
 use Rattle.command.specs.Command.{Found, unit, waiting, refused}
@@ -25,6 +27,12 @@ Longer n x = (c : List ℕ) (m l : ℕ) → x ≡ unit c m l → n < l
 abbrev pub Heads : List ℕ → ℕ → Draw → Type 0
 Heads p n Closed = (n ≡ 0) ⊎ ((getD p 0 0 ≡ 0x10) × (n < 5))
 Heads p n (Open primitive format left) = ⊥
+
+-- what a look that waits asks for: 1 the opcode, 2 the rest of an XF load's head, 3 the rest of the unit (document 02, L4)
+abbrev pub stageOf : Draw → List ℕ → ℕ
+stageOf Closed [] = 1
+stageOf Closed (op ∷ p) = cond (eqb op 0x10 && ltb (length (op ∷ p)) 5) 2 3
+stageOf (Open primitive format left) p = 3
 
 -- the answer at just the five bytes of an XF load's head: 8, or waiting for all of its words
 abbrev pub HeadRead : List ℕ → Found → Type 0

@@ -15,13 +15,13 @@ use Rattle.queue.proofs.FeedLaws.{refused-left}
 use Rattle.processor.specs.State.{State}
 use Rattle.processor.specs.Step.{after, stepFound, stepOf}
 use Rattle.running.specs.Run.{runOf}
+use Rattle.running.proofs.Invariant.{none-run}
 use Rattle.words.specs.State.{fifoOf, stateAt, fifoStored}
 use Rattle.words.specs.Promises.{stateWith}
 use Rattle.words.proofs.Holding.{words-promises}
 use Rattle.encoding.specs.Told.{firstOf, stepNumber}
 use Rattle.duckhammock.specs.Calls.{WritesRegister, Feeds, Lent, lentOf, lentBy}
 use Rattle.duckhammock.specs.Promises.{saidBy, CallsPromises}
-use Rattle.duckhammock.proofs.Units.{none-run}
 
 -- ---- a call that is not accepted leaves the fifo and the state
 

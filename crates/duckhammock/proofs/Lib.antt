@@ -3,3 +3,4 @@ pub mod Lending
 pub mod Windows
 pub mod Units
 pub mod Chained
+pub mod Waiting

@@ -26,7 +26,8 @@ use Rattle.running.specs.declared.Ran.{Ran}
 use Rattle.processor.specs.State.{State, stateOf}
 use Rattle.processor.specs.Gate.{gateOf}
 use Rattle.processor.specs.Step.{meaning, executed, after, stepFound, stepOf, Steps}
-use Rattle.running.specs.Run.{Ended, ended, goneOn, steps, gated, runLimit, runOf, meaningOfStop, Reports}
+use Rattle.running.specs.Run.{Ended, ended, steps, gated, runLimit, runOf, meaningOfStop, Reports}
+use Rattle.running.proofs.Invariant.{none-run}
 use Rattle.words.specs.declared.state.Front.the-variants.{Held}
 use Rattle.words.specs.State.{cpOf, bpOf, stateAt, wordsBy}
 use Rattle.words.specs.Front.{frontOf, wordsAfterUnit}
@@ -126,27 +127,6 @@ module _ (ring : List ℕ) (s : State) (words told : List ℕ) (lacking : ℕ) w
       }
 
 -- ---- a run
-
--- a run of no unit leaves the state
-none-gone : (found : Found) (s : State) (e : Ended) → length (goneOn found s e .units) ≡ 0 → goneOn found s e .state ≡ s
-none-gone (unit c m n) s e h = absurd (omega (arith, h))
-none-gone (waiting k) s e h = refl
-none-gone (refused r) s e h = refl
-
-none-steps : (ring : List ℕ) (n : ℕ) (s : State) → length (steps ring n s .units) ≡ 0 → steps ring n s .state ≡ s
-unfolding steps
-none-steps ring zero s h = refl
-none-steps ring (suc n) s h = none-gone (stepFound ring s) s (steps ring n (stepOf ring s)) h
-
-none-gated : (r : ℕ) (s : State) (e : Ended) → (length (e .units) ≡ 0 → e .state ≡ s) → length (gated r s e .units) ≡ 0
-    → gated r s e .state ≡ s
-none-gated zero s e h k = h k
-none-gated (suc r) s e h k = refl
-
-pub none-run : (ring : List ℕ) (limit : ℕ) (s : State) → length (runOf ring limit s .units) ≡ 0 → runOf ring limit s .state ≡ s
-unfolding runOf
-none-run ring limit s h =
-    none-gated (gateOf s (length ring)) s (steps ring (min limit runLimit) s) (none-steps ring (min limit runLimit) s) h
 
 module _ (ring : List ℕ) (limit : ℕ) (s : State) (words : List ℕ) where
   pub run-wide : {r : ℕ} {report : List ℕ} → gateOf s (length ring) ≡ 1 → r ≡ number InvalidState → report ≡ 0 ∷ 0 ∷ []

@@ -1,17 +1,20 @@
 -- What one call leaves is what the next one reads: the words and the memory after a call say the state after document 01's call, after
--- refused and waiting calls too.
+-- refused and waiting calls too (`CallsPromises`, proved in proofs/Chained). What a call that waits tells (`LackingPromises`, in
+-- proofs/Waiting).
 use mathlib.Core.Path.{_≡_}
 use mathlib.Core.List.{List}
-use Prim.Native.Nat.{ℕ}
+use Prim.Native.Nat.{ℕ, _≤_}
 use lib.ListN.{length}
 use Rattle.octets.specs.BigEndian.{Octets}
+use Rattle.command.specs.Command.{waiting}
 use Rattle.fifo.specs.Registers.{written}
-use Rattle.queue.specs.Feeding.{fifoAfter, ringAfter}
+use Rattle.queue.specs.Feeding.{roomOf, fifoAfter, ringAfter}
 use Rattle.processor.specs.State.{State}
-use Rattle.processor.specs.Step.{stepOf}
+use Rattle.processor.specs.Step.{stepFound, stepOf}
 use Rattle.running.specs.Run.{runOf}
-use Rattle.words.specs.State.{fifoOf, stateAt}
+use Rattle.words.specs.State.{windowOf, fifoOf, stateAt}
 use Rattle.words.specs.Promises.{stateWith}
+use Rattle.encoding.specs.Told.{secondOf}
 use Rattle.duckhammock.specs.Calls.{WritesRegister, Feeds, Lent, lentOf, Tells, Ends}
 
 -- the state that what was lent says
@@ -37,3 +40,19 @@ pub record CallsPromises : Type 0 where
   pub after-run : (ring words xf vertex : List ℕ) (limit r : ℕ) (lent' : Lent) (report' : List ℕ) → Octets ring → length words ≡ 327
       → Ends (runOf ring limit (stateAt words xf vertex)) (lentOf words xf vertex) r lent' report'
       → saidBy lent' ≡ runOf ring limit (stateAt words xf vertex) .state
+
+-- Document 02, L4: "It is at least 1 and never more than the ring's free room", of the number that a call on words tells where it answers
+-- 255. The premises are the calls' contracts as they stand.
+pub record LackingPromises : Type 0 where
+  -- a step
+  pub of-step : (ring words xf vertex unit : List ℕ) (lacking r : ℕ) (lent' : Lent) (unit' : List ℕ) (lacking' : ℕ)
+      → Tells ring (stateAt words xf vertex) (lentOf words xf vertex) unit lacking r lent' unit' lacking' → r ≡ 255
+      → (1 ≤ lacking') × (lacking' ≤ roomOf (windowOf words))
+  -- a run, by the room that it leaves
+  pub of-run : (ring words xf vertex : List ℕ) (limit r : ℕ) (lent' : Lent) (report' : List ℕ) → Octets ring → length words ≡ 327
+      → Ends (runOf ring limit (stateAt words xf vertex)) (lentOf words xf vertex) r lent' report' → r ≡ 255
+      → (1 ≤ secondOf report') × (secondOf report' ≤ roomOf (windowOf (lent' .words)))
+  -- a run that waits stopped at a unit that waits for as much
+  pub stopped-at : (ring words xf vertex : List ℕ) (limit r : ℕ) (lent' : Lent) (report' : List ℕ) → Octets ring → length words ≡ 327
+      → Ends (runOf ring limit (stateAt words xf vertex)) (lentOf words xf vertex) r lent' report' → r ≡ 255
+      → stepFound ring (saidBy lent') ≡ waiting (secondOf report')

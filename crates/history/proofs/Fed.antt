@@ -3,15 +3,15 @@
 use mathlib.Core.Path.{_≡_, refl, sym, ap₂, _∙_}
 use mathlib.Core.Logic.{⊎-elim}
 use mathlib.Core.List.{List, [], _++_, append-nil}
-use Prim.Native.Nat.{ℕ, zero, suc, _+_, _-_}
+use Prim.Native.Nat.{ℕ, _+_, _-_}
 use native.Mathlib.Omega.{arith}
 use lib.ListN.{length}
 use lib.Seq.{take-all}
 use borrow.Author.Tests.{eqb-false}
 use Rattle.laws.proofs.Cases.{tested, cond-both}
 use Rattle.command.specs.declared.Command.the-variants.{LoadXf}
-use Rattle.command.specs.Command.{Found, waiting, numbersOf, loadXf}
-use Rattle.command.specs.Look.{unlessRefused}
+use Rattle.command.specs.Command.{numbersOf, loadXf}
+use Rattle.command.proofs.Refusals.{unless-waiting}
 use Rattle.command.proofs.Bounds.{progress}
 use Rattle.writer.specs.Write.{wordsOf, commandBytes}
 use Rattle.writer.specs.Again.{heldWords}
@@ -85,10 +85,6 @@ pub run-fed : RunFed
 run-fed w bytes o h limit = run-longer limit o (fed-octets (w .state .fifo) (w .ring) bytes o h) (feed-longer w bytes)
 
 -- ---- "A full ring is never answered with waiting."
-unless-waiting : (r : ℕ) (x : Found) (k : ℕ) → unlessRefused r x ≡ waiting k → x ≡ waiting k
-unless-waiting zero x k e = e
-unless-waiting (suc r) x k e = let z : _≡_ {A = ℕ} 0 1 = cc in absurd (omega (arith, z))
-
 pub full-never-waits : FullNeverWaits
 unfolding stepFound lookAt
 full-never-waits w r full k e =
@@ -96,7 +92,7 @@ full-never-waits w r full k e =
     let q : List ℕ = queueOf (w .ring) s in
     let l : length q ≡ countOf (s .fifo .window) = length-pending (s .fifo .window) (w .ring) in
     progress q (length q) (omega (arith, r .valid .least)) (s .cp) (s .draw) k
-    (unless-waiting (gateOf s (length (w .ring))) (lookAt (w .ring) s) k e)
+    (unless-waiting (gateOf s (length (w .ring))) (lookAt (w .ring) s) k e .1)
 
 -- ---- "Stepping a written command, alone in a ring that passes 1 to 5 with no draw open, gives it back, for a draw head unless 9 or 10."
 pub step-written : StepWritten

@@ -5,3 +5,4 @@ pub mod Bytes
 pub mod Fed
 pub mod Feeds
 pub mod Passes
+pub mod Loading

@@ -4,10 +4,10 @@ use mathlib.Core.Bool.{Bool, true, false, cond, _&&_}
 use mathlib.Core.List.{[], _∷_}
 use Prim.Native.Nat.{ℕ, suc, _≤_}
 use native.Mathlib.Omega.{arith}
-use lib.Dec.{leb, eqb}
+use lib.Dec.{leb, eqb, lit≤}
 use lib.ListN.{length}
 use borrow.Author.Tests.{eqb-true, eqb-false, leb-true, eq-eqb, ne-eqb, le-leb}
-use Rattle.laws.proofs.Cases.{and-left, and-right}
+use Rattle.laws.proofs.Cases.{and-left, and-right, cond-both}
 use Rattle.command.specs.Look.{xfCount}
 use Rattle.fifo.specs.declared.Fifo.{Fifo}
 use Rattle.fifo.specs.Window.{Ready, readyBy}
@@ -76,6 +76,20 @@ module _ (s : State) (ring : ℕ) where
         ne-eqb (readBit (s .fifo .control)) 0 (p .enabled),
         eq-eqb (linkBit (s .fifo .control)) 0 (p .unlinked),
       )
+
+  -- "Step and run test 1 to 5 whole": its numbers are these
+  pub gate-most : gateOf s ring ≤ 5
+  unfolding gateBy
+  gate-most =
+      let f : Fifo = s .fifo in
+      cond-both (λ x. x ≤ 5) (stateFits f (s .cp) (s .bp) (s .draw) ring)
+      (λ _. cond-both (λ x. x ≤ 5) (eqb (length (s .xf)) xfCount)
+      (λ _. cond-both (λ x. x ≤ 5) (leb 129 (length (s .buffer)))
+      (λ _. cond-both (λ x. x ≤ 5) (eqb (readBit (f .control)) 0) (λ _. lit≤ tt)
+      (λ _. cond-both (λ x. x ≤ 5) (eqb (linkBit (f .control)) 0) (λ _. lit≤ tt) (λ _. lit≤ tt)))
+      (λ _. lit≤ tt))
+      (λ _. lit≤ tt))
+      (λ _. lit≤ tt)
 
 -- a gate that was passed
 pub passed : (n : ℕ) → 0 ∷ [] ≡ n ∷ [] → n ≡ 0

@@ -5,3 +5,4 @@ pub mod Follow
 pub mod Runs
 pub mod Meanings
 pub mod Invariant
+pub mod Waiting

@@ -1,3 +1,4 @@
 pub mod Vertices
 pub mod Loads
 pub mod Run
+pub mod Promises
