@@ -16,7 +16,7 @@
  *
  * A refused or waiting call changes nothing: no state word, ring byte, XF word
  * or vertex byte, and nothing of what was lent for its values. A step that waits
- * tells in *lacking how many bytes the unit lacks, and nothing else. A run keeps
+ * tells in *lacking how many bytes are lacking, and nothing else. A run keeps
  * the units that it did before one was refused or waits, and that one changes
  * nothing; its report is told whatever the answer. An accepted call changes what
  * its comment says and nothing else.
@@ -278,8 +278,15 @@ uint32_t duckhammock_feed(uint32_t state[DUCKHAMMOCK_STATE_WORDS],
  * Takes one unit: 1 to 10, or waiting. Where it was done, the state words are
  * those of the state after it, an XF load has stored its words in xf, a vertex's
  * bytes stand at the front of vertex and the rest of that stays, and unit tells
- * the command's five words and how many bytes the unit has. Where it waits,
- * *lacking is how many bytes the unit lacks; else it stays.
+ * the command's five words and how many bytes the unit has.
+ *
+ * Where it waits, *lacking is how many bytes are lacking; else it stays. In an
+ * empty ring with no draw open that is 1, the opcode, and then the rest of the
+ * unit: of an XF load first the rest of its head of five bytes, then of its words;
+ * in an open draw the rest of the vertex. It is at least 1 and never more than the
+ * ring's free room (size - 1 - count), so a feed of just that many bytes is
+ * accepted. A loader that always feeds so many takes at most three feeds for a
+ * unit: the opcode, an XF load's head, the rest.
  */
 uint32_t duckhammock_step(uint32_t state[DUCKHAMMOCK_STATE_WORDS],
                           const uint8_t *ring, size_t ring_len,
@@ -292,7 +299,9 @@ uint32_t duckhammock_step(uint32_t state[DUCKHAMMOCK_STATE_WORDS],
  * Takes units until the limit, waiting or a refusal, 1 to 10, the limit tested
  * first; a run of limit 0 still gives 1 to 5. The report is told whatever the
  * answer. Where units were done, state words, xf and vertex are as those units
- * leave them, one step after the other.
+ * leave them, one step after the other. A run that waits tells the bytes lacking
+ * as a step at the same place would; one that its limit ended tells 0, also where
+ * the ring is empty.
  */
 uint32_t duckhammock_run(uint32_t state[DUCKHAMMOCK_STATE_WORDS],
                          const uint8_t *ring, size_t ring_len,

@@ -1,7 +1,9 @@
 /*
  * Sets a window, feeds a few commands, steps through them and decodes a position;
- * then checks, merges and writes two patches of one BP register, feeds them, runs
- * and reads the register back. Ends with 0 only where all was as expected.
+ * loads a stream that is read piece by piece, each piece just as long as the
+ * processor says is lacking; then checks, merges and writes two patches of one BP
+ * register, feeds them, runs and reads the register back. Ends with 0 only where
+ * all was as expected.
  */
 #include "duckhammock.h"
 
@@ -19,6 +21,9 @@ enum { VALUE_KIND, VALUE_X, VALUE_Y, VALUE_Z };
 /* Two people's corrections of one BP register: four bits each. */
 enum { REGISTER = 0x41, MASK_REGISTER = 0xFE, EVERY_BIT = 0xFFFFFF };
 enum { FIRST_MASK = 0x0F, FIRST_NUMBER = 0x05, SECOND_MASK = 0xF0, SECOND_NUMBER = 0x30 };
+/* A stream to load: one XF word, and a no-operation. */
+enum { XF_PLACE = 5, XF_WORD = 0x3F800000, STREAM_UNITS = 2 };
+enum { XF_LOAD_FEEDS = 3, STREAM_FEEDS = XF_LOAD_FEEDS + 1 };
 enum { MERGED_MASK = 0xFF, MERGED_NUMBER = 0x35, BEFORE = 0x123456, AFTER = 0x123435 };
 /* The commands and the vertex; the loads of two patches; those of BEFORE and of one. */
 enum { COMMAND_UNITS = 5, TWO_PATCHES_UNITS = 4, MERGED_UNITS = 3 };
@@ -34,6 +39,7 @@ static const uint32_t commands[][DUCKHAMMOCK_COMMAND_WORDS] = {
     { DUCKHAMMOCK_KIND_DRAW, TRIANGLES, FORMAT, VERTICES }
 };
 static const uint8_t bytes_of_vertex[AXES] = { X, Y, Z };
+static const uint8_t stream[] = { 0x10, 0x00, 0x00, 0x00, XF_PLACE, 0x3F, 0x80, 0x00, 0x00, 0x00 };
 static const patch first = { { [REGISTER] = FIRST_MASK }, { [REGISTER] = FIRST_NUMBER } };
 static const patch second = { { [REGISTER] = SECOND_MASK }, { [REGISTER] = SECOND_NUMBER } };
 
@@ -108,6 +114,28 @@ static void decode_position(void)
            values[VALUE_Y], values[VALUE_Z]);
 }
 
+/* Runs, and where the run waits reads and feeds just the bytes that are lacking. */
+static void load(const uint8_t *bytes, size_t length)
+{
+    uint32_t report[DUCKHAMMOCK_REPORT_WORDS], answer, loaded = 0, feeds = 0;
+    for (;;) {
+        answer = duckhammock_run(state, LENT, DUCKHAMMOCK_MOST_UNITS, report);
+        loaded += report[DUCKHAMMOCK_REPORT_UNITS];
+        if (answer != DUCKHAMMOCK_WAITING || length < report[DUCKHAMMOCK_REPORT_LACKING])
+            break;
+        feed("what is lacking", bytes, report[DUCKHAMMOCK_REPORT_LACKING]);
+        bytes += report[DUCKHAMMOCK_REPORT_LACKING];
+        length -= report[DUCKHAMMOCK_REPORT_LACKING];
+        feeds++;
+    }
+    expect("last run", answer, DUCKHAMMOCK_WAITING);
+    expect("bytes left", (uint32_t)length, 0);
+    expect("units", loaded, STREAM_UNITS);
+    expect("feeds", feeds, STREAM_FEEDS);
+    expect("XF word", xf[XF_PLACE], XF_WORD);
+    printf("loaded: XF word %d holds %08" PRIX32 "\n", XF_PLACE, xf[XF_PLACE]);
+}
+
 /* Runs all that was fed; the register must then hold what the patches say. */
 static void run(uint32_t expected)
 {
@@ -134,6 +162,7 @@ int main(void)
     feed("a vertex", bytes_of_vertex, sizeof bytes_of_vertex);
     step_through();
     decode_position();
+    load(stream, sizeof stream);
     done("check", duckhammock_check_patch(WHOLE(first)));
     done("check", duckhammock_check_patch(WHOLE(second)));
     done("merge", duckhammock_merge_patches(WHOLE(first), WHOLE(second), WHOLE(merged)));

@@ -126,7 +126,7 @@ waits-later (op ∷ p) q cp Closed k j e l f =
     (λ t.
     let h = is-head op p t in
     let five : length (op ∷ p ++ q) ≡ 5 =
-      omega (arith, same (sym (head-first (op ∷ p) cp (rw t)) ∙ e), length-append (op ∷ p) q, l, h .1) in
+    omega (arith, same (sym (head-first (op ∷ p) cp (rw t)) ∙ e), length-append (op ∷ p) q, l, h .1) in
     let past : 5 ≤ length (op ∷ p ++ q) = omega arith in
     rw (t, eq-eqb op 0x10 (h .0), le-ltb (length (op ∷ p ++ q)) 5 past) (lit< tt))
     (λ t. absurd (look-just (op ∷ p) q cp Closed k e l (not-heads Closed (op ∷ p) (rw t)) j f))
@@ -158,7 +158,7 @@ module _ (p b : List ℕ) (n n' : ℕ) (more : n ≤ n') (begins : (i : ℕ) →
   not-more h =
       let settled : Settled (lookOf b (n + k) cp draw) = look-extends p b n (n + k) (omega arith) begins cp draw .just k waits refl past in
       let all : lookOf b (n + k) cp draw ≡ unit c m l =
-        look-extends b b (n + k) n' (omega (arith, there .1 .0)) (λ _ _. refl) cp draw .keeps settled ∙ is in
+      look-extends b b (n + k) n' (omega (arith, there .1 .0)) (λ _ _. refl) cp draw .keeps settled ∙ is in
       let few : Fair (n + k) (unit c m l) = subst (Fair (n + k)) all (look-fair b (n + k) cp draw) in
       omega (arith, few .1 .0)
 

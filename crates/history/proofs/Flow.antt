@@ -1,7 +1,7 @@
 -- What a call does to the queue: the bytes that it accepts come to the end, and those of the units that it answers leave the front.
 use mathlib.Core.Path.{_≡_, refl, sym, ap, _∙_}
 use mathlib.Core.List.{List, [], _∷_}
-use Prim.Native.Nat.{ℕ, zero, suc, _+_, _-_, min, _≤_}
+use Prim.Native.Nat.{ℕ, zero, suc, _+_, _-_, _≤_}
 use native.Mathlib.Nat.{add-zero}
 use native.Mathlib.Omega.{arith}
 use lib.ListN.{length, drop, length-drop}
@@ -14,7 +14,8 @@ use Rattle.processor.specs.State.{State}
 use Rattle.processor.specs.Gate.{gateOf}
 use Rattle.processor.specs.Step.{queueOf, lookAt, executed, stepFound, stepOf}
 use Rattle.processor.specs.Step as S
-use Rattle.running.specs.Run.{Taken, Ended, goneOn, steps, gated, runLimit, runOf}
+use Rattle.running.specs.Run.{Taken, runOf}
+use Rattle.running.proofs.Invariant.{run-holds}
 use Rattle.processor.proofs.Passing.{Passes, gate-passes}
 use Rattle.processor.proofs.Bridge.{unit-fits}
 use Rattle.history.specs.Calls.{after, answered, consumedBy}
@@ -62,22 +63,17 @@ flow-then ring s t r u us a b =
     let h : consumedBy us ≤ length (drop (u .length) (queueOf ring s)) = rw q at (b .1) in
     (b .0 ∙ ap (drop (consumedBy us)) q ∙ drop-drop (consumedBy us) (u .length) (queueOf ring s), omega (arith, a .1, h, l))
 
-flow-gone : (ring : List ℕ) (s : State) (found : Found) → stepFound ring s ≡ found → (e : Ended) → Flows ring (S.after ring s found) (e .units) (e .state)
-    → Flows ring s (goneOn found s e .units) (goneOn found s e .state)
-unfolding Flows
-flow-gone ring s (unit c m n) f e h = flow-then ring s (executed ring s c n) (e .state) _ (e .units) (flow-found ring s (unit c m n) f) h
-flow-gone ring s (waiting k) f e h = flow-none ring s
-flow-gone ring s (refused r) f e h = flow-none ring s
-
-pub flow-steps : (ring : List ℕ) (n : ℕ) (s : State) → Flows ring s (steps ring n s .units) (steps ring n s .state)
-unfolding steps stepOf
-flow-steps ring zero s = flow-none ring s
-flow-steps ring (suc n) s = flow-gone ring s (stepFound ring s) refl (steps ring n (stepOf ring s)) (flow-steps ring n (stepOf ring s))
-
-flow-gated : (ring : List ℕ) (r : ℕ) (s : State) (e : Ended) → Flows ring s (e .units) (e .state) → Flows ring s (gated r s e .units) (gated r s e .state)
-flow-gated ring zero s e h = h
-flow-gated ring (suc r) s e h = flow-none ring s
+flow-step : (ring : List ℕ) (s : State) (c : List ℕ) (m n : ℕ) → stepFound ring s ≡ unit c m n
+    → Flows ring s (record { command = c; memory = m; length = n } ∷ []) (stepOf ring s)
+unfolding Flows stepOf
+flow-step ring s c m n f = rw f (flow-found ring s (unit c m n) f)
 
 pub flow-run : (ring : List ℕ) (limit : ℕ) (s : State) → Flows ring s (runOf ring limit s .units) (runOf ring limit s .state)
-unfolding runOf
-flow-run ring limit s = flow-gated ring (gateOf s (length ring)) s _ (flow-steps ring (min limit runLimit) s)
+flow-run ring =
+    run-holds ring (λ s e. Flows ring s (e .units) (e .state))
+    (record {
+      at-limit = λ s. flow-none ring s;
+      at-waiting = λ s k f. flow-none ring s;
+      at-refusal = λ s r f. flow-none ring s;
+      at-unit = λ s c m n e f k. flow-then ring s (stepOf ring s) (e .state) _ (e .units) (flow-step ring s c m n f) k;
+    })

@@ -9,18 +9,19 @@ use Rattle.command.specs.Look.{unlessRefused}
 use Rattle.processor.specs.State.{State}
 use Rattle.processor.specs.Gate.{gateOf}
 use Rattle.processor.specs.Step.{lookAt, stepFound, stepOf}
-use Rattle.running.specs.Run.{Taken, Ended, stopOf, ended, goneOn, steps, gated, runLimit, runOf}
+use Rattle.running.specs.Run.{Ended, stopOf, ended, goneOn, steps, gated, runLimit, runOf}
 
 -- a property of the state that a run is at and of how it ends
 pub record Inductive (ring : List ℕ) (P : State → Ended → Type 0) : Type 0 where
   pub at-limit : (s : State) → P s (ended [] (0 ∷ []) s)
   pub at-waiting : (s : State) (k : ℕ) → stepFound ring s ≡ waiting k → P s (ended [] (stopOf (waiting k)) s)
   pub at-refusal : (s : State) (r : ℕ) → stepFound ring s ≡ refused r → P s (ended [] (stopOf (refused r)) s)
-  pub at-unit : (s : State) (u : Taken) (e : Ended) → P (stepOf ring s) e → P s (ended (u ∷ e .units) (e .stop) (e .state))
+  pub at-unit : (s : State) (c : List ℕ) (m n : ℕ) (e : Ended) → stepFound ring s ≡ unit c m n → P (stepOf ring s) e
+      → P s (goneOn (unit c m n) s e)
 
 module _ (ring : List ℕ) (P : State → Ended → Type 0) (h : Inductive ring P) where
   gone-holds : (found : Found) (s : State) (e : Ended) → stepFound ring s ≡ found → P (stepOf ring s) e → P s (goneOn found s e)
-  gone-holds (unit c m n) s e f k = h .at-unit s _ e k
+  gone-holds (unit c m n) s e f k = h .at-unit s c m n e f k
   gone-holds (waiting j) s e f k = h .at-waiting s j f
   gone-holds (refused r) s e f k = h .at-refusal s r f
 
@@ -48,7 +49,7 @@ run-keeps ring Has stays =
       at-limit = λ s h. h;
       at-waiting = λ s k f h. h;
       at-refusal = λ s r f h. h;
-      at-unit = λ s u e k h. k (stays s h);
+      at-unit = λ s c m n e f k h. k (stays s h);
     })
 
 -- a run of no unit leaves the state
@@ -59,5 +60,5 @@ none-run ring =
       at-limit = λ s z. refl;
       at-waiting = λ s k f z. refl;
       at-refusal = λ s r f z. refl;
-      at-unit = λ s u e k z. absurd (omega (arith, z));
+      at-unit = λ s c m n e f k z. absurd (omega (arith, z));
     })

@@ -51,7 +51,7 @@ run-stopped ring =
       at-limit = λ s z. absurd (omega (arith, z));
       at-waiting = λ s k f z. f;
       at-refusal = λ s r f z. absurd (omega (arith, step-refuses ring s r f, z));
-      at-unit = λ s u e k. k;
+      at-unit = λ s c m n e f k. k;
     })
 
 pub run-waits : RunWaits

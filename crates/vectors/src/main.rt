@@ -16,4 +16,5 @@ fn main() {
     normals::fractions();
     normals::others();
     units::metrics();
+    units::waiting();
 }

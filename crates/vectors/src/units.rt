@@ -1,8 +1,36 @@
-// Units of one byte, run off a ring.
+// Units that are run off a ring: what is taken, and what a run tells where it stops.
 use crate::line;
 use crate::ring;
-use fifo::Fifo;
+use command::Draw;
+use running::Ran;
 use running::Stop;
+
+// A run off a ring that holds just these bytes, with registers whose vertices of format 0 have 12 bytes: a position of three f32.
+fn run(bytes: &[u8], draw: Draw, limit: u32) -> Ran {
+    let mut memory = [0u8; 256];
+    let mut fifo = ring::at_1000(0x1000, 0x1000);
+    fifo.control = 1;
+    let fed = queue::feed(fifo, &mut memory, bytes);
+    let machine = processor::fresh();
+    let registers = machine.registers;
+    let mut cp = registers.cp;
+    effect::load_cp(&mut cp, 0x50, 0x200);
+    effect::load_cp(&mut cp, 0x70, 9);
+    let mut bp = registers.bp;
+    let mut xf = [0u32; 4184];
+    let mut buffer = [0u8; 129];
+    let held = fed.fifo;
+    running::run(
+        held,
+        &mut cp,
+        &mut bp,
+        draw,
+        &memory,
+        &mut xf,
+        &mut buffer,
+        limit,
+    )
+}
 
 // Why a run stopped: 0 at its limit, the refusal's number, and 255 where it waits.
 fn stopped(stop: Stop) -> u32 {
@@ -13,39 +41,65 @@ fn stopped(stop: Stop) -> u32 {
     }
 }
 
-// A ring that is fed two bytes, with reads enabled.
-fn fed(memory: &mut [u8], first: u8, second: u8) -> Fifo {
-    let mut fifo = ring::at_1000(0x1000, 0x1000);
-    fifo.control = 1;
-    let bytes = [first, second];
-    let fed = queue::feed(fifo, memory, &bytes);
-    fed.fifo
-}
-
 // "Accept 44 without effect; 68 now gives refusal 6": of 44 68 one unit is taken, and 68 stays.
 pub fn metrics() {
-    let mut memory = [0u8; 256];
-    let fifo = fed(&mut memory, 0x44, 0x68);
-    let machine = processor::fresh();
-    let registers = machine.registers;
-    let draw = registers.draw;
-    let mut cp = registers.cp;
-    let mut bp = registers.bp;
-    let mut xf = [0u32; 4184];
-    let mut buffer = [0u8; 129];
-    let ran = running::run(
-        fifo,
-        &mut cp,
-        &mut bp,
-        draw,
-        &memory,
-        &mut xf,
-        &mut buffer,
-        10,
-    );
+    let ran = run(&[0x44, 0x68], Draw::Closed, 10);
     let left = ran.fifo;
     let stop = ran.stop;
     line::write(b"units of 44 68: ", ran.units);
     line::write(b"what stops it: ", stopped(stop));
     line::write(b"bytes left: ", ring::counted(left));
+}
+
+// The bytes that a run tells to be lacking; 1000 where its limit ended it, or 2000 and the refusal's number.
+fn lacking(bytes: &[u8], draw: Draw, limit: u32) -> u32 {
+    let ran = run(bytes, draw, limit);
+    let stop = ran.stop;
+    match stop {
+        Stop::Limit => 1000,
+        Stop::Waiting(lacking) => lacking,
+        Stop::Refused(reason) => 2000 + refusal::number(reason) as u32,
+    }
+}
+
+// "one for an empty ring with no draw open, then the rest of the unit, for an XF load first of its five-byte head, then of its words; in an
+// open draw, the rest of the vertex"; a run that its limit ended tells none, and 8 comes before waiting.
+pub fn waiting() {
+    line::write(
+        b"bytes lacking in an empty ring: ",
+        lacking(&[], Draw::Closed, 1),
+    );
+    line::write(
+        b"bytes lacking after 08: ",
+        lacking(&[0x08], Draw::Closed, 1),
+    );
+    line::write(
+        b"bytes lacking after 61 41: ",
+        lacking(&[0x61, 0x41], Draw::Closed, 1),
+    );
+    line::write(
+        b"bytes lacking after 10 00: ",
+        lacking(&[0x10, 0x00], Draw::Closed, 1),
+    );
+    line::write(
+        b"bytes lacking after 10 00 03 00 00: ",
+        lacking(&[0x10, 0x00, 0x03, 0x00, 0x00], Draw::Closed, 1),
+    );
+    line::write(
+        b"what 10 00 01 10 57 alone gives (2000 and the refusal): ",
+        lacking(&[0x10, 0x00, 0x01, 0x10, 0x57], Draw::Closed, 1),
+    );
+    let draw = Draw::Open {
+        primitive: 2,
+        format: 0,
+        left: 3,
+    };
+    line::write(
+        b"bytes lacking in an empty ring, a draw of 12 bytes a vertex open: ",
+        lacking(&[], draw, 1),
+    );
+    line::write(
+        b"what a run of limit 1 over 00 gives (1000 for its limit): ",
+        lacking(&[0x00], Draw::Closed, 1),
+    );
 }

@@ -3,9 +3,9 @@
 -- A further row is added to `rows`, and the definitions that it opens to the lines under `worked`.
 use mathlib.Core.Path.{_≡_, refl, ap, _∙_}
 use mathlib.Core.Bool.{cond}
-use mathlib.Core.List.{List, [], _∷_}
+use mathlib.Core.List.{List, [], _∷_, _++_}
 use Prim.Native.Nat.{ℕ, _+_, _*_, _^_}
-use lib.ListN.{getD, set, replicate}
+use lib.ListN.{length, getD, set, replicate}
 use lib.Ieee.{round, toBits, ofBits}
 use Rattle.laws.specs.Values.{upTo}
 use Rattle.octets.specs.BigEndian.{bigEndian, bytesOf}
@@ -17,8 +17,10 @@ use Rattle.layout.specs.Answers.{refusalOf, acceptedOf, lengthOf}
 use Rattle.vertex.specs.Attributes.{rawAt, componentAt, paddedList, componentList, directList, attributeList}
 use Rattle.vertex.specs.Answers.{refusalAt, decodingOf}
 use Rattle.command.specs.Command.{Found, unit, waiting, refused}
-use Rattle.command.specs.declared.Draw.the-variants.{Closed}
-use Rattle.command.specs.Look.{whole, byOpcode, lookOf}
+use Rattle.command.specs.declared.Draw.{Draw}
+use Rattle.command.specs.declared.Draw.the-variants.{Closed, Open}
+use Rattle.command.specs.Places.{vcdPlace, vatPlace}
+use Rattle.command.specs.Look.{whole, lookCp, xfWords, xfAddress, lookXf, descriptorOf, lookVertex, byOpcode, lookOf}
 use Rattle.effect.specs.Effect.{masked, storedBp, loadedBp}
 use Rattle.writer.specs.Write.{headOf, wordsOf, wordBytes, commandBytes}
 use Rattle.patch.specs.Patch.{Patch, patchOf, bpCount, mergedOf}
@@ -62,9 +64,13 @@ foundNumber (unit c m n) = n
 foundNumber (waiting k) = 1000 + k
 foundNumber (refused r) = 2000 + r
 
--- what a byte alone is, no draw being open
-abbrev aloneByte : ℕ → ℕ
-aloneByte op = foundNumber (lookOf (op ∷ []) 1 (replicate 60 0) Closed)
+-- the CP registers with vertices of 12 bytes in format 0, a direct position of three f32, and 0 in the others
+abbrev twelveBytes : List ℕ
+twelveBytes = set (set (replicate 60 0) (vcdPlace 0) 0x200) (vatPlace 0 0) 9
+
+-- what some bytes alone are
+abbrev aloneBytes : List ℕ → Draw → ℕ
+aloneBytes bytes draw = foundNumber (lookOf bytes (length bytes) twelveBytes draw)
 
 -- BP registers that are zero but for one
 abbrev only : ℕ → ℕ → List ℕ
@@ -96,11 +102,23 @@ corrected =
     ∷ row (normalPart 0 2 0 (0x80 ∷ 0 ∷ 0 ∷ 0 ∷ 0 ∷ 0 ∷ []) 0) 0x3F800000
     ∷ row (normalPart 0 4 0 (0x3F ∷ 0x80 ∷ 0 ∷ 0 ∷ 0 ∷ 0 ∷ 0 ∷ 0 ∷ 0 ∷ 0 ∷ 0 ∷ 0 ∷ []) 0) 0x3F800000
     ∷ row (normalPart 1 1 0 (0 ∷ 0 ∷ 0 ∷ 0 ∷ 0 ∷ 0 ∷ 0 ∷ 0 ∷ 0x40 ∷ []) 8) 0x3F800000
-    ∷ row (aloneByte 0x44) 1
-    ∷ row (aloneByte 0x68) 2006
+    ∷ row (aloneBytes (0x44 ∷ []) Closed) 1
+    ∷ row (aloneBytes (0x68 ∷ []) Closed) 2006
     ∷ []
 
--- the table, in document 01's order, then what document 02 corrects
+-- document 02, L4: no byte lacks 1; a CP load of one byte 5; 10 00 lacks 3, and five bytes of an XF load of length 3 lack 16, but past
+-- 4,184 they give 8; no byte of a vertex of 12 bytes lacks 12
+unfoldable pub lacking : List Row
+lacking =
+    row (aloneBytes [] Closed) 1001
+    ∷ row (aloneBytes (0x08 ∷ []) Closed) 1005
+    ∷ row (aloneBytes (0x10 ∷ 0x00 ∷ []) Closed) 1003
+    ∷ row (aloneBytes (0x10 ∷ 0x00 ∷ 0x03 ∷ 0x00 ∷ 0x00 ∷ []) Closed) 1016
+    ∷ row (aloneBytes (0x10 ∷ 0x00 ∷ 0x01 ∷ 0x10 ∷ 0x57 ∷ []) Closed) 2008
+    ∷ row (aloneBytes [] (Open 2 0 3)) 1012
+    ∷ []
+
+-- the table, in document 01's order, then what document 02 corrects and adds
 unfoldable pub rows : List Row
 rows =
     row (getD (countAnswer wrapped) 1 0) 5
@@ -117,7 +135,7 @@ rows =
     ∷ row (first 2 16 0 (0xFF ∷ 0xFF ∷ 0 ∷ 0 ∷ [])) 0x3F7FFF00
     ∷ row (first 3 31 0 (0xFF ∷ 0xFF ∷ 0 ∷ 0 ∷ [])) 0xB0000000
     ∷ row (first 0 3 0 (8 ∷ 0 ∷ [])) 0x41000000
-    ∷ corrected
+    ∷ corrected ++ lacking
 
 -- the left and the right numbers of a table
 unfoldable pub given : List Row → List ℕ
@@ -129,10 +147,10 @@ said [] = []
 said (row a b ∷ l) = b ∷ said l
 
 pub worked : given rows ≡ said rows
-unfolding rows corrected given said bitsAt modes counts formats shifts modeOf countOf formatOf fractionBits fractionOf indicesOf
+unfolding rows corrected lacking given said bitsAt modes counts formats shifts modeOf countOf formatOf fractionBits fractionOf indicesOf
     directOf sizeOf offsetOf unknownAt anyUnknown refusalOf lengthOf
     refusalAt attributeList directList componentList paddedList componentAt rawAt bigEndian componentOf upTo round toBits ofBits
-    sizeLimit validBy countIn countAnswer whole byOpcode lookOf masked storedBp loadedBp
+    sizeLimit validBy countIn countAnswer whole lookCp xfWords xfAddress lookXf descriptorOf lookVertex byOpcode lookOf masked storedBp loadedBp
 worked = refl
 
 -- ---- the two patches of "Sheets and the writer"

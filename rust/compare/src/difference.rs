@@ -192,7 +192,7 @@ impl Made<'_> {
     }
 
     /// What both sides did alike against the header: an answer that the call
-    /// cannot give, or something changed that stays.
+    /// cannot give, bytes lacking that cannot be, or something changed that stays.
     fn breaks_the_header(&self) -> Option<(String, [String; 2])> {
         let answer = self.answers[0];
         if !self.call.kind().answers().contains(&answer) {
@@ -204,12 +204,29 @@ impl Made<'_> {
             let found = first(&call_parts(&expected), &call_parts(&self.calls[0]));
             return found.map(both_changed);
         }
+        if let Some(lacking) = self.lacking() {
+            let room = self.worlds[0].room();
+            if !(1..=room).contains(&lacking) {
+                let what = format!("nothing, but the bytes lacking are not 1 to the room, {room}");
+                return Some((what, [lacking, lacking].map(|n| n.to_string())));
+            }
+        }
         let part = self.changed_part()?;
         let of = |world| -> Vec<Part> {
             let parts = world_parts(world).into_iter();
             parts.filter(|(name, _)| *name == part).collect()
         };
         first(&of(self.before), &of(&self.worlds[0])).map(both_changed)
+    }
+
+    /// The bytes lacking, where the call waits.
+    fn lacking(&self) -> Option<u32> {
+        match &self.calls[0] {
+            _ if self.answers[0] != WAITING => None,
+            Call::Step { lacking, .. } => Some(*lacking),
+            Call::Run { report, .. } => Some(report[1]),
+            _ => None,
+        }
     }
 
     /// The call as it may be after its answer: a refused one as it was, a

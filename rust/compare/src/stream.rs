@@ -4,6 +4,7 @@ use crate::duo::Duo;
 use crate::formats::{good_vat, good_vcd};
 use crate::random::Random;
 use crate::world::{word, Lent, USUAL};
+use model::words::{DONE, WAITING};
 use model::CpRegisters;
 
 /// Where the ring stands and how many bytes it has.
@@ -137,11 +138,10 @@ pub enum Pace {
 }
 
 /// Feeds the units in pieces that fit, with steps, runs and reads between.
-pub fn play(duo: &mut Duo, random: &mut Random, ring: &Ring, bytes: &[u8], pace: Pace) {
+pub fn play(duo: &mut Duo, random: &mut Random, bytes: &[u8], pace: Pace) {
     let mut at = 0;
     while at < bytes.len() && duo.fault().is_none() {
-        let room = ring.size - 1 - pending(duo, ring);
-        let most = room.min((bytes.len() - at) as u32);
+        let most = duo.world().room().min((bytes.len() - at) as u32);
         let piece = match pace {
             Pace::ByteByByte => most.min(1),
             Pace::Bulk => most,
@@ -172,14 +172,27 @@ pub fn play(duo: &mut Duo, random: &mut Random, ring: &Ring, bytes: &[u8], pace:
     end_of_stream(duo, random);
 }
 
-/// The bytes that wait in the ring.
-fn pending(duo: &Duo, ring: &Ring) -> u32 {
-    let state = &duo.world().state;
-    let (write, read) = (state[word::WRITE], state[word::READ]);
-    if write >= read {
-        write - read
-    } else {
-        ring.size - (read - write)
+/// Feeds just the bytes that are lacking, as a step or a run tells them, until
+/// the stream ends or a unit is refused.
+pub fn load(duo: &mut Duo, random: &mut Random, bytes: &[u8], by_runs: bool) {
+    let mut rest = bytes;
+    while duo.fault().is_none() {
+        let (answer, lacking) = if by_runs {
+            let (answer, [_, lacking]) = duo.run(random.between(1, 40));
+            (answer, lacking)
+        } else {
+            let (answer, _, lacking) = duo.step();
+            (answer, lacking)
+        };
+        match answer {
+            DONE => {}
+            WAITING if !rest.is_empty() => {
+                let (piece, after) = rest.split_at(rest.len().min(lacking as usize));
+                duo.feed(piece);
+                rest = after;
+            }
+            _ => return,
+        }
     }
 }
 

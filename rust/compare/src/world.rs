@@ -75,6 +75,25 @@ impl World {
         grow(&mut self.vertex, lent.vertex);
     }
 
+    /// The bytes that are in the ring, of a window that obeys the rules.
+    pub fn count(&self) -> u32 {
+        let state = &self.state;
+        let gap = state[word::WRITE].wrapping_sub(state[word::READ]);
+        if state[word::WRITE] < state[word::READ] {
+            return gap.wrapping_add(self.size());
+        }
+        gap
+    }
+
+    /// "size minus 1 minus count"
+    pub fn room(&self) -> u32 {
+        self.size().wrapping_sub(1).wrapping_sub(self.count())
+    }
+
+    fn size(&self) -> u32 {
+        self.state[word::END].wrapping_sub(self.state[word::START])
+    }
+
     /// The byte at the read pointer; none where that is outside the ring.
     pub fn next_byte(&self) -> Option<u8> {
         let place = self.state[word::READ].wrapping_sub(self.state[word::START]);

@@ -68,7 +68,7 @@ fn every_fault_is_found_on_the_other_side() {
 
 /// Where both sides have the same fault, those are found that the header rules
 /// out whatever the rules are: a refused call that changes something, a call
-/// that changes what it must not.
+/// that changes what it must not, bytes lacking that cannot be.
 #[test]
 fn a_fault_of_both_sides() {
     use common::Fault::*;
@@ -83,6 +83,10 @@ fn a_fault_of_both_sides() {
         MergedZeroed,
         LackingZeroedByRefusal,
         LackingZeroedByUnit,
+        LackingNone,
+        LackingPastTheRoom,
+        RunLacksNone,
+        LimitRunLacksOne,
         DrawNormalisedByRefusal,
         DrawNormalisedByWrite,
         DrawNormalisedByFeed,

@@ -1,5 +1,5 @@
-//! Document 02's L2, with numbers worked out by hand: normals have fixed
-//! fractions, and the metrics opcode is 44.
+//! Document 02's L2 and L4, with numbers worked out by hand: normals have fixed
+//! fractions, and the metrics opcode is 44; what waiting says is lacking.
 #![forbid(unsafe_code)]
 
 mod common;
@@ -258,4 +258,63 @@ fn metrics_written() {
     assert_eq!(told, [0x44, 0, 0, 0, 0]);
     assert_eq!(words::command_of(&told), Some(Command::Metrics));
     assert_eq!(words::command_of(&[0x68, 0, 0, 0, 0]), None);
+}
+
+/// "one for an empty ring with no draw open, then the rest of the unit, for an XF
+/// load first of its five-byte head, then of its words; in an open draw, the rest
+/// of the vertex": the bytes that are there, whether a draw of 12 bytes a vertex
+/// is open, and the bytes lacking.
+const LACKING: [(&[u8], bool, u32); 14] = [
+    (&[], false, 1),
+    (&[0x08], false, 5),
+    (&[0x08, 0x30], false, 4),
+    (&[0x61, 0x41], false, 3),
+    (&[0x20], false, 4),
+    (&[0x40], false, 8),
+    (&[0x90], false, 2),
+    (&[0x10], false, 4),
+    (&[0x10, 0x00], false, 3),
+    (&[0x10, 0x00, 0x03, 0x00, 0x00], false, 16),
+    (&[0x10, 0x00, 0x03, 0x00, 0x00, 0xA5], false, 15),
+    (&[], true, 12),
+    (&[0x10], true, 11),
+    (&[0xFF; 11], true, 1),
+];
+
+#[test]
+fn waiting_says_for_how_much() {
+    for (bytes, open, lacking) in LACKING {
+        let mut bench = Bench::new(256).at(0x10FE);
+        bench.state.cp.vcd[0] = 0x200;
+        bench.state.cp.vat[0][0] = 9;
+        if open {
+            bench.state.draw = Some(Draw {
+                primitive: 2,
+                format: 0,
+                left: 3,
+            });
+        }
+        bench.feed(bytes).expect("fed");
+        assert_eq!(bench.step(), Answer::Waiting { lacking });
+        let end = End::Waiting { lacking };
+        assert_eq!(bench.run(9), Run { units: 0, end });
+    }
+}
+
+#[test]
+fn the_fifth_byte_gives_8_before_waiting() {
+    let mut bench = Bench::new(256);
+    assert_eq!(
+        bench.unit(&[0x10, 0x00, 0x01, 0x10]),
+        Answer::Waiting { lacking: 1 }
+    );
+    assert!(matches!(bench.unit(&[0x57]), Answer::Refused(refusal) if refusal.number() == 8));
+}
+
+#[test]
+fn a_run_ended_by_its_limit_says_nothing_of_bytes() {
+    let mut bench = Bench::new(256);
+    bench.feed(&[0x00]).expect("fed");
+    let end = End::Limit;
+    assert_eq!(bench.run(1), Run { units: 1, end });
 }

@@ -53,7 +53,7 @@ fn set_format(duo: &mut Duo, format: usize, words: &FormatWords) {
 /// Draws of every attribute format, their last vertices decoded.
 pub fn draws(duo: &mut Duo, random: &mut Random) {
     duo.scenario("draws");
-    let ring = open_ring(duo, random);
+    open_ring(duo, random);
     let format = random.below(8) as u8;
     for _ in 0..random.between(1, 4) {
         let words = good_format(random);
@@ -67,7 +67,7 @@ pub fn draws(duo: &mut Duo, random: &mut Random) {
         let head = 0x80 | random.u8() & 0x38 | format;
         units.draw(random, head, count, length);
         let pace = random.pick(&[Pace::Bulk, Pace::Mixed, Pace::Mixed]);
-        play(duo, random, &ring, &units.bytes(), pace);
+        play(duo, random, &units.bytes(), pace);
         // As the last vertex stands in the buffer.
         let last = duo.world().vertex[..length].to_vec();
         for attribute in 0..21 {
@@ -79,7 +79,7 @@ pub fn draws(duo: &mut Duo, random: &mut Random) {
 /// Tens of thousands of vertices, run in few calls.
 pub fn big_draw(duo: &mut Duo, random: &mut Random) {
     duo.scenario("big draw");
-    let ring = open_ring_of(duo, random, 65_536);
+    open_ring_of(duo, random, 65_536);
     // Position by an index of one byte, or two or three bytes of its own.
     let (vcd, vat, length) = random.pick(&[(0x400, 0, 1), (0x200, 0, 2), (0x200, 1, 3)]);
     set_format(duo, 0, &[vcd, 0, vat, 0, 0]);
@@ -92,5 +92,5 @@ pub fn big_draw(duo: &mut Duo, random: &mut Random) {
     let head = 0x80 | random.u8() & 0x38;
     units.draw(random, head, count, length);
     units.units.push(vec![0x48]);
-    play(duo, random, &ring, &units.bytes(), Pace::Bulk);
+    play(duo, random, &units.bytes(), Pace::Bulk);
 }

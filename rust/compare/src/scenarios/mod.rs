@@ -26,7 +26,7 @@ pub fn fixed(duo: &mut Duo) {
 
 /// One scenario by chance.
 pub fn by_chance(duo: &mut Duo, random: &mut Random) {
-    match random.below(41) {
+    match random.below(42) {
         0..=3 => streams::stream(duo, random),
         4 => streams::runs(duo, random),
         5..=8 => streams::mutated(duo, random),
@@ -42,6 +42,7 @@ pub fn by_chance(duo: &mut Duo, random: &mut Random) {
         34 => patches::through_the_ring(duo, random),
         35..=38 => wild::wild(duo, random),
         39 => vertices::normals(duo, random),
+        40 => streams::loaded(duo, random),
         _ => match random.below(8) {
             0 => draws::big_draw(duo, random),
             1..=3 => registers::offsets(duo, random),

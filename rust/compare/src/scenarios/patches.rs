@@ -89,17 +89,17 @@ pub fn patches(duo: &mut Duo, random: &mut Random) {
 pub fn through_the_ring(duo: &mut Duo, random: &mut Random) {
     duo.scenario("patches through the ring");
     let size = random.pick(&[256, 4096]);
-    let ring = open_ring_of(duo, random, size);
+    open_ring_of(duo, random, size);
     scatter_registers(duo, random);
     let mut merged = Patch::empty();
     for _ in 0..random.between(1, 3) {
         let patch = good_patch(random);
         let (_, bytes) = duo.write_patch(&patch, ROOM);
         let pace = random.pick(&[Pace::Bulk, Pace::Mixed]);
-        play(duo, random, &ring, &bytes, pace);
+        play(duo, random, &bytes, pace);
         duo.write(0x004, random.u16());
         (_, merged) = duo.merge_patches(&merged, &patch, 256, 256);
     }
     let (_, bytes) = duo.write_patch(&merged, ROOM);
-    play(duo, random, &ring, &bytes, Pace::Bulk);
+    play(duo, random, &bytes, Pace::Bulk);
 }

@@ -2,13 +2,13 @@
 
 use crate::duo::Duo;
 use crate::random::Random;
-use crate::stream::{look, open_ring, open_ring_of, play, scatter_registers, Pace, Ring};
+use crate::stream::{load, look, open_ring, open_ring_of, play, scatter_registers, Pace, Ring};
 use crate::units::{bad_opcode, Units};
 
 /// Units that mean something; sometimes the last is refused.
 pub fn stream(duo: &mut Duo, random: &mut Random) {
     duo.scenario("stream");
-    let ring = open_ring(duo, random);
+    open_ring(duo, random);
     let mut units = Units::new(scatter_registers(duo, random));
     let (pace, most) = match random.below(6) {
         0 => (Pace::ByteByByte, 5),
@@ -18,11 +18,11 @@ pub fn stream(duo: &mut Duo, random: &mut Random) {
     for _ in 0..random.between(1, most) {
         units.add(random);
     }
-    play(duo, random, &ring, &units.bytes(), pace);
+    play(duo, random, &units.bytes(), pace);
     if random.once_in(2) {
         units.units.clear();
         units.add_refused(random);
-        play(duo, random, &ring, &units.bytes(), Pace::ByteByByte);
+        play(duo, random, &units.bytes(), Pace::ByteByByte);
         duo.feed(&[0]);
         duo.step();
         duo.run(3);
@@ -33,7 +33,7 @@ pub fn stream(duo: &mut Duo, random: &mut Random) {
 pub fn runs(duo: &mut Duo, random: &mut Random) {
     duo.scenario("runs");
     let size = random.pick(&[256, 512, 2048]);
-    let ring = open_ring_of(duo, random, size);
+    open_ring_of(duo, random, size);
     let mut units = Units::new(scatter_registers(duo, random));
     for _ in 0..random.between(20, 80) {
         if random.once_in(2) {
@@ -42,7 +42,23 @@ pub fn runs(duo: &mut Duo, random: &mut Random) {
             units.add(random);
         }
     }
-    play(duo, random, &ring, &units.bytes(), Pace::Runs);
+    play(duo, random, &units.bytes(), Pace::Runs);
+}
+
+/// Units that are fed just as many bytes at a time as are lacking; sometimes the
+/// last is refused.
+pub fn loaded(duo: &mut Duo, random: &mut Random) {
+    duo.scenario("loader");
+    open_ring(duo, random);
+    let mut units = Units::new(scatter_registers(duo, random));
+    for _ in 0..random.between(1, 20) {
+        units.add(random);
+    }
+    if random.once_in(3) {
+        units.add_refused(random);
+    }
+    let by_runs = random.once_in(2);
+    load(duo, random, &units.bytes(), by_runs);
 }
 
 /// Units with bytes changed, put in or left out, and opcodes that are none

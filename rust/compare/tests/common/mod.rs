@@ -29,6 +29,14 @@ faults! {
     LackingZeroedByRefusal,
     LackingZeroedByUnit,
     LackingOneMore,
+    LackingNone,
+    LackingPastTheRoom,
+    CpWaitsForItsAddress,
+    WholeUnitAwaited,
+    WordAskedWithTheHead,
+    RunLacksOne,
+    RunLacksNone,
+    LimitRunLacksOne,
     ReportLeft,
     ReportOneMore,
     ControlModulo,
@@ -93,6 +101,7 @@ faults! {
 }
 
 const VERTEX: u32 = 0x01;
+const LOAD_CP: u8 = 0x08;
 const LOAD_XF: u32 = 0x10;
 const METRICS: u32 = 0x44;
 /// The metrics opcode until document 02's L2.
@@ -174,6 +183,15 @@ fn next_byte(state: &StateWords, ring: &[u8]) -> u8 {
     ring[(state[READ_POINTER] - state[START]) as usize]
 }
 
+/// The bytes in a ring.
+fn count_of(state: &StateWords) -> u32 {
+    let (write, read) = (state[WRITE_POINTER], state[READ_POINTER]);
+    if write < read {
+        return state[END] - state[START] - (read - write);
+    }
+    write - read
+}
+
 /// Takes one byte as a unit, or as the rest of one.
 fn take_byte(state: &mut StateWords) {
     state[READ_POINTER] += 1;
@@ -225,6 +243,29 @@ impl Faulty {
             Fault::AddressWithoutIndex if kind & !0x18 == 0x20 => unit[4] = 0,
             Fault::XfWordBeforeIt if kind == LOAD_XF && b != 0 => xf[b as usize - 1] ^= 1,
             Fault::MetricsToldAsOld if kind == METRICS => unit[0] = OLD_METRICS.into(),
+            _ => {}
+        }
+    }
+
+    /// What is wrong with the bytes lacking of a step that waits.
+    fn spoil_lacking(&self, state: &StateWords, ring: &[u8], lacking: &mut u32) {
+        let count = count_of(state);
+        let begun = count != 0 && state[OPEN] == 0;
+        match self.0 {
+            Fault::LackingOneMore => *lacking += 1,
+            Fault::LackingNone => *lacking = 0,
+            Fault::LackingPastTheRoom => *lacking = state[END] - state[START] - count,
+            Fault::CpWaitsForItsAddress
+                if begun && count < 2 && next_byte(state, ring) == LOAD_CP =>
+            {
+                *lacking = 2 - count;
+            }
+            Fault::WholeUnitAwaited => *lacking += count,
+            Fault::WordAskedWithTheHead
+                if begun && count < 5 && u32::from(next_byte(state, ring)) == LOAD_XF =>
+            {
+                *lacking += 4;
+            }
             _ => {}
         }
     }
@@ -333,11 +374,13 @@ impl Side for Faulty {
             self.spoil_unit(state, xf, unit);
         }
         self.spoil_state(state, stale, answer == DONE);
+        if answer == WAITING {
+            self.spoil_lacking(state, ring, lacking);
+        }
         match self.0 {
             Fault::UnitZeroed if answer != DONE => *unit = [0; 6],
             Fault::LackingZeroedByRefusal if ![DONE, WAITING].contains(&answer) => *lacking = 0,
             Fault::LackingZeroedByUnit if answer == DONE => *lacking = 0,
-            Fault::LackingOneMore if answer == WAITING => *lacking += 1,
             Fault::VertexRestCleared if answer == DONE && unit[0] == VERTEX => {
                 vertex[unit[5] as usize..].fill(0);
             }
@@ -387,6 +430,9 @@ impl Side for Faulty {
         match self.0 {
             Fault::ReportLeft if answer != DONE && answer != WAITING => *report = was,
             Fault::ReportOneMore if answer == 8 => report[0] += 1,
+            Fault::RunLacksOne if answer == WAITING => report[1] = 1,
+            Fault::RunLacksNone if answer == WAITING => report[1] = 0,
+            Fault::LimitRunLacksOne if answer == DONE => report[1] = 1,
             Fault::DrawNormalisedByEmptyRun if report[0] == 0 && state[OPEN] == 0 => {
                 clear_draw(state);
             }
