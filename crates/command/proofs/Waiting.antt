@@ -104,7 +104,9 @@ is-head op p t =
 not-heads : (draw : Draw) (p : List ℕ) → stageOf draw p ≡ 3 → Heads p (length p) draw → ⊥
 not-heads Closed [] e h = omega (arith, e)
 not-heads Closed (op ∷ p) e (inl z) = omega (arith, z)
-not-heads Closed (op ∷ p) e (inr (x, l)) = let z : _≡_ {A = ℕ} 2 3 = rw (eq-eqb op 0x10 x, lt-ltb (length (op ∷ p)) 5 l) at e in omega (arith, z)
+not-heads Closed (op ∷ p) e (inr (x, l)) =
+    let z : _≡_ {A = ℕ} 2 3 = rw (eq-eqb op 0x10 x, lt-ltb (length (op ∷ p)) 5 l) at e in
+    omega (arith, z)
 not-heads (Open primitive format left) p e h = h
 
 head-first : (p cp : List ℕ) → stageOf Closed p ≡ 2 → lookAll p cp Closed ≡ waiting (5 - length p)

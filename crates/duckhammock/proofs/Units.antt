@@ -15,7 +15,7 @@ use Rattle.refusal.specs.Number.{number}
 use Rattle.refusal.specs.declared.Reason.the-variants.{InvalidState}
 use Rattle.command.specs.declared.Command.{Command}
 use Rattle.command.specs.declared.Draw.{Draw}
-use Rattle.command.specs.Command.{Found, unit, waiting, refused, kindOf, numbersOf}
+use Rattle.command.specs.Command.{Found, unit, kindOf, numbersOf}
 use Rattle.effect.specs.Effect.{cpAfter, bpAfter}
 use Rattle.fifo.specs.declared.Fifo.{Fifo}
 use Rattle.processor.proofs.StepAnswer as Answers

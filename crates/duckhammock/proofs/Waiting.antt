@@ -1,5 +1,5 @@
 -- What a step and a run on words tell where they wait.
-use mathlib.Core.Path.{_≡_, refl, sym, ap, subst, _∙_}
+use mathlib.Core.Path.{_≡_, refl, sym, ap, _∙_}
 use mathlib.Core.List.{List}
 use Prim.Native.Nat.{ℕ, _≤_}
 use native.Mathlib.Omega.{arith}
@@ -37,7 +37,8 @@ module _ (ring words xf vertex : List ℕ) (limit r : ℕ) (lent' : Lent) (repor
   run-stopped-at : stepFound ring (saidBy lent') ≡ waiting (secondOf report')
   run-stopped-at =
       ap (stepFound ring) (calls-promises .after-run ring words xf vertex limit r lent' report' o n h) ∙
-      run-stopped ring limit (stateAt words xf vertex) (sym (h .answer-is) ∙ e) ∙ ap (λ (l : List ℕ). waiting (secondOf l)) (sym (h .report-is))
+      run-stopped ring limit (stateAt words xf vertex) (sym (h .answer-is) ∙ e) ∙
+      ap (λ (l : List ℕ). waiting (secondOf l)) (sym (h .report-is))
 
   run-lacks : (1 ≤ secondOf report') × (secondOf report' ≤ roomOf (windowOf (lent' .words)))
   unfolding fifoOf

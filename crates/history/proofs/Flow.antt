@@ -34,7 +34,8 @@ module _ (ring : List ℕ) (s : State) where
 
   -- one answer: what it leaves of the queue, and that its bytes were there
   pub flow-found : (found : Found) → stepFound ring s ≡ found
-      → (queueOf ring (S.after ring s found) ≡ drop (consumedBy (answered found)) (queueOf ring s)) × (consumedBy (answered found) ≤ length (queueOf ring s))
+      → (queueOf ring (S.after ring s found) ≡ drop (consumedBy (answered found)) (queueOf ring s))
+      × (consumedBy (answered found) ≤ length (queueOf ring s))
   unfolding executed consumedBy
   flow-found (unit c m n) e =
       let u = step-unit c m n e in
@@ -54,7 +55,8 @@ flow-none : (ring : List ℕ) (s : State) → Flows ring s [] s
 unfolding Flows consumedBy
 flow-none ring s = (refl, omega arith)
 
-flow-then : (ring : List ℕ) (s t r : State) (u : Taken) (us : List Taken) → Flows ring s (u ∷ []) t → Flows ring t us r → Flows ring s (u ∷ us) r
+flow-then : (ring : List ℕ) (s t r : State) (u : Taken) (us : List Taken) → Flows ring s (u ∷ []) t → Flows ring t us r
+    → Flows ring s (u ∷ us) r
 unfolding Flows consumedBy
 flow-then ring s t r u us a b =
     let n : u .length + 0 ≡ u .length = add-zero (u .length) in

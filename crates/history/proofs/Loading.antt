@@ -1,11 +1,11 @@
 -- A loader that always feeds the lacking number: each of its feeds is accepted, and three are enough for a unit.
-use mathlib.Core.Path.{_≡_, refl, sym, ap, subst, _∙_}
-use mathlib.Core.Bool.{true, _&&_}
+use mathlib.Core.Path.{_≡_, refl, sym, subst}
+use mathlib.Core.Bool.{_&&_}
 use mathlib.Core.Logic.{⊎-elim}
 use mathlib.Core.List.{List, [], _∷_, _++_}
 use Prim.Native.Nat.{ℕ, _+_, _*_, _<_, _≤_}
 use native.Mathlib.Omega.{arith}
-use lib.Dec.{leb, ltb, eqb, lit≤}
+use lib.Dec.{ltb, eqb, lit≤}
 use lib.ListN.{length, length-append}
 use borrow.Author.Tests.{le-leb}
 use Rattle.laws.proofs.Cases.{order, cond-both}
@@ -55,10 +55,10 @@ module _ (w : World) (bytes : List ℕ) (j : ℕ) (waits : stepFound (w .ring) (
 
   later : stepFound (w' .ring) (w' .state) ≡ waiting j → stageAt w < stageAt w'
   later e =
-      let d : Draw = w .state .draw in
-      let again : lookAll (queue w ++ bytes) (w .state .cp) d ≡ waiting j = rw queue-fed at (looks (w' .ring) (w' .state) j e) in
-      rw queue-fed
-      (waiting-promises .next (queue w) bytes (w .state .cp) d (length bytes) j (looks (w .ring) (w .state) (length bytes) waits) refl again)
+      let s : State = w .state in
+      let first = looks (w .ring) s (length bytes) waits in
+      let again : lookAll (queue w ++ bytes) (s .cp) (s .draw) ≡ waiting j = rw queue-fed at (looks (w' .ring) (w' .state) j e) in
+      rw queue-fed (waiting-promises .next (queue w) bytes (s .cp) (s .draw) (length bytes) j first refl again)
 
 pub next-stage : NextStage
 next-stage w bytes j waits = later w bytes j waits
@@ -81,7 +81,8 @@ from-next : (w : World) (bytes : List ℕ) → stepFound (w .ring) (w .state) �
 from-next w bytes waits g l j e = omega (arith, next-stage w bytes j waits e, l)
 
 -- one round before others, of which it is known from any stage on
-module _ (w : World) (r : Round) (rs : List Round) (waits : runOf (w .ring) (r .limit) (w .state) .stop ≡ 255 ∷ length (r .bytes) ∷ []) where
+module _ (w : World) (r : Round) (rs : List Round)
+    (waits : runOf (w .ring) (r .limit) (w .state) .stop ≡ 255 ∷ length (r .bytes) ∷ []) where
   abbrev w1 : World
   w1 = after w (run (r .limit))
 

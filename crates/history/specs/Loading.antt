@@ -1,5 +1,5 @@
--- A loader as a list of calls: it runs, and where the run waits it feeds just the bytes that are lacking (document 02, L4: "Our loader polls a
--- byte at a time").
+-- A loader as a list of calls: it runs, and where the run waits it feeds just the bytes that are lacking
+-- (document 02, L4: "Our loader polls a byte at a time").
 use mathlib.Core.Path.{_≡_}
 use mathlib.Core.List.{List, [], _∷_}
 use Prim.Native.Nat.{ℕ}

@@ -150,7 +150,8 @@ pub worked : given rows ≡ said rows
 unfolding rows corrected lacking given said bitsAt modes counts formats shifts modeOf countOf formatOf fractionBits fractionOf indicesOf
     directOf sizeOf offsetOf unknownAt anyUnknown refusalOf lengthOf
     refusalAt attributeList directList componentList paddedList componentAt rawAt bigEndian componentOf upTo round toBits ofBits
-    sizeLimit validBy countIn countAnswer whole lookCp xfWords xfAddress lookXf descriptorOf lookVertex byOpcode lookOf masked storedBp loadedBp
+    sizeLimit validBy countIn countAnswer whole lookCp xfWords xfAddress lookXf descriptorOf lookVertex byOpcode lookOf
+    masked storedBp loadedBp
 worked = refl
 
 -- ---- the two patches of "Sheets and the writer"
