@@ -21,10 +21,10 @@ enum { VALUE_KIND, VALUE_X, VALUE_Y, VALUE_Z };
 /* Two people's corrections of one BP register: four bits each. */
 enum { REGISTER = 0x41, MASK_REGISTER = 0xFE, EVERY_BIT = 0xFFFFFF };
 enum { FIRST_MASK = 0x0F, FIRST_NUMBER = 0x05, SECOND_MASK = 0xF0, SECOND_NUMBER = 0x30 };
+enum { MERGED_MASK = 0xFF, MERGED_NUMBER = 0x35, BEFORE = 0x123456, AFTER = 0x123435 };
 /* A stream to load: one XF word, and a no-operation. */
 enum { XF_PLACE = 5, XF_WORD = 0x3F800000, STREAM_UNITS = 2 };
 enum { XF_LOAD_FEEDS = 3, STREAM_FEEDS = XF_LOAD_FEEDS + 1 };
-enum { MERGED_MASK = 0xFF, MERGED_NUMBER = 0x35, BEFORE = 0x123456, AFTER = 0x123435 };
 /* The commands and the vertex; the loads of two patches; those of BEFORE and of one. */
 enum { COMMAND_UNITS = 5, TWO_PATCHES_UNITS = 4, MERGED_UNITS = 3 };
 
@@ -72,7 +72,7 @@ static void write_word(uint16_t offset, uint32_t word)
 static void feed(const char *what, const uint8_t *bytes, size_t length)
 {
     done("feed", duckhammock_feed(state, ring, sizeof ring, bytes, length));
-    printf("fed %s, %u bytes\n", what, (unsigned)length);
+    printf("fed %s, %u byte%s\n", what, (unsigned)length, length == 1 ? "" : "s");
 }
 
 static void feed_command(const uint32_t *words)

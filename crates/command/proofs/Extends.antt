@@ -20,7 +20,26 @@ use Rattle.command.specs.Look.{whole, lookCp, xfCount, xfWords, xfAddres
 use Rattle.command.specs.Look.{unlessRefused, lookHead, lookVertex, isIndexed, isDraw, byOpcode, lookOf}
 use Rattle.command.specs.Bounds.{Fair}
 use Rattle.command.proofs.Bounds.{look-fair}
-pub use Rattle.command.specs.Prefix.{Settled, NoUnit, Longer, Heads, Extends}
+use Rattle.command.specs.Prefix.{Settled, NoUnit}
+
+-- a unit of more than n bytes, where it is one
+abbrev pub Longer : ℕ → Found → Type 0
+Longer n x = (c : List ℕ) (m l : ℕ) → x ≡ unit c m l → n < l
+
+-- no byte at all, or a part of an XF load's head: what comes next decides how many bytes come after it, or a refusal
+abbrev pub Heads : List ℕ → ℕ → Draw → Type 0
+Heads p n Closed = (n ≡ 0) ⊎ ((getD p 0 0 ≡ 0x10) × (n < 5))
+Heads p n (Open primitive format left) = ⊥
+
+-- x is the answer at n bytes and y at n' of the same: `keeps`, an answer other than waiting stays;
+-- `fewer`, with fewer bytes more than are lacking there is no unit;
+-- `just`, with just those there is a unit or a refusal, unless E;
+-- `alone`, a unit is one without what comes after it
+pub record Extends (E : Type 0) (n n' : ℕ) (x y : Found) : Type 0 where
+  pub keeps : Settled x → x ≡ y
+  pub fewer : (k : ℕ) → x ≡ waiting k → n' < n + k → NoUnit y
+  pub just : (k : ℕ) → x ≡ waiting k → n' ≡ n + k → (E → ⊥) → Settled y
+  pub alone : (c : List ℕ) (m l : ℕ) → y ≡ unit c m l → l ≤ n → x ≡ y
 
 no : {A : Type 0} → _≡_ {A = ℕ} 0 1 → A
 no e = absurd (omega (arith, e))

@@ -13,8 +13,8 @@ use Rattle.command.specs.declared.Draw.the-variants.{Closed, Open}
 use Rattle.command.specs.Command.{Found, unit, waiting}
 use Rattle.command.specs.Look.{lookCp, xfWords, xfAddress, lookXf, lookIndexed, lookCall, lookBp, lookHead, byOpcode, lookOf}
 use Rattle.command.specs.Bounds.{Fair}
-use Rattle.command.specs.Prefix.{Settled, NoUnit, Extends, Heads}
-use Rattle.command.proofs.Extends.{look-extends}
+use Rattle.command.specs.Prefix.{Settled, NoUnit}
+use Rattle.command.proofs.Extends.{Heads, Extends, look-extends}
 use Rattle.command.proofs.Bounds.{look-fair}
 
 -- ---- a look reads only the CP registers, the draw, nine bytes and the count

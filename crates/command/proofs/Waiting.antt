@@ -14,12 +14,12 @@ use Rattle.command.specs.declared.Draw.{Draw}
 use Rattle.command.specs.declared.Draw.the-variants.{Closed, Open}
 use Rattle.command.specs.Command.{Found, unit, waiting, refused, vertex}
 use Rattle.command.specs.Look.{whole, xfCount, xfWords, xfAddress, lookXf, descriptorOf, vertexBytes, lookVertex, byOpcode, lookOf}
-use Rattle.command.specs.Prefix.{Settled, Heads, stageOf, HeadRead}
+use Rattle.command.specs.Prefix.{Settled, stageOf, HeadRead}
 use Rattle.command.specs.Promises.{lookAll, WaitingPromises}
 use Rattle.command.proofs.Opcodes.{at-opcode}
 use Rattle.command.proofs.Refusals.{unless-waiting}
 use Rattle.command.proofs.Bounds.{Fair, look-fair}
-use Rattle.command.proofs.Extends.{look-extends}
+use Rattle.command.proofs.Extends.{Heads, look-extends}
 use Rattle.command.proofs.Prefix.{look-fewer, look-just, look-lacking}
 
 same : {j k : ℕ} → waiting j ≡ waiting k → j ≡ k
@@ -134,6 +134,11 @@ waits-later (op ∷ p) q cp Closed k j e l f =
     (λ t. absurd (look-just (op ∷ p) q cp Closed k e l (not-heads Closed (op ∷ p) (rw t)) j f))
     (tested (in-head op p))
 
+-- with just the rest of the unit nothing waits
+rest-settles : (p q cp : List ℕ) (draw : Draw) (k : ℕ) → lookAll p cp draw ≡ waiting k → length q ≡ k → stageOf draw p ≡ 3
+    → Settled (lookAll (p ++ q) cp draw)
+rest-settles p q cp draw k e l s = look-just p q cp draw k e l (not-heads draw p s)
+
 -- ---- the rest of the unit, at n bytes of a longer list
 module _ (p b : List ℕ) (n n' : ℕ) (more : n ≤ n') (begins : (i : ℕ) → i < n → getD p i 0 ≡ getD b i 0) (cp : List ℕ) (draw : Draw)
     (k : ℕ) (waits : lookOf p n cp draw ≡ waiting k) (past : Heads p n draw → ⊥)
@@ -187,4 +192,5 @@ waiting-promises =
       bounds = look-lacking;
       fewer = look-fewer;
       next = waits-later;
+      last = rest-settles;
     }

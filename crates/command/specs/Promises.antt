@@ -44,6 +44,10 @@ pub record WaitingPromises : Type 0 where
   pub bounds : (p cp : List ℕ) (draw : Draw) (k : ℕ) → lookAll p cp draw ≡ waiting k → (1 ≤ k) × (length p + k ≤ 129)
   -- with fewer bytes more than are lacking the answer is never a unit
   pub fewer : (p q cp : List ℕ) (draw : Draw) (k : ℕ) → lookAll p cp draw ≡ waiting k → length q < k → NoUnit (lookAll (p ++ q) cp draw)
-  -- with just that many it is a unit or a refusal, or it waits for what comes after: the opcode, an XF load's head, the rest of the unit
+  -- with just that many it is a unit or a refusal, or it waits again, for a later one of these: 1 the opcode, 2 the rest of an XF load's
+  -- head, 3 the rest of the unit
   pub next : (p q cp : List ℕ) (draw : Draw) (k j : ℕ) → lookAll p cp draw ≡ waiting k → length q ≡ k → lookAll (p ++ q) cp draw ≡ waiting j
       → stageOf draw p < stageOf draw (p ++ q)
+  -- with just the rest of the unit it is a unit or a refusal
+  pub last : (p q cp : List ℕ) (draw : Draw) (k : ℕ) → lookAll p cp draw ≡ waiting k → length q ≡ k → stageOf draw p ≡ 3
+      → Settled (lookAll (p ++ q) cp draw)

@@ -119,7 +119,7 @@ pub extern "C" fn duckhammock_feed(state: &mut [u32; 327], ring: &mut [u8], byte
     0
 }
 
-// Takes one unit, and tells its command's five words and how many bytes it has; where it waits, how many bytes it lacks.
+// Takes one unit, and tells its command's five words and how many bytes it has; where it waits, how many bytes are lacking.
 #[no_mangle]
 pub extern "C" fn duckhammock_step(
     state: &mut [u32; 327],

@@ -57,7 +57,7 @@ if-written true w e t = refl
 if-written false true e t = e
 if-written false false e t = t
 
-written-kept : (f : Fifo) (o v : ℕ) (ring : List ℕ) → (harmless o || not (writable o)) ≡ true
+pub written-kept : (f : Fifo) (o v : ℕ) (ring : List ℕ) → (harmless o || not (writable o)) ≡ true
     → pending (written f o v .window) ring ≡ pending (f .window) ring
 unfolding written
 written-kept f o v ring h =

@@ -1,7 +1,7 @@
 -- A loader that always feeds the lacking number: each of its feeds is accepted, and three are enough for a unit.
-use mathlib.Core.Path.{_≡_, refl, sym, subst}
+use mathlib.Core.Path.{_≡_, refl, sym, ap, subst}
 use mathlib.Core.Bool.{_&&_}
-use mathlib.Core.Logic.{⊎-elim}
+use mathlib.Core.Logic.{_⊎_, inl, inr, ⊎-elim}
 use mathlib.Core.List.{List, [], _∷_, _++_}
 use Prim.Native.Nat.{ℕ, _+_, _*_, _<_, _≤_}
 use native.Mathlib.Omega.{arith}
@@ -11,7 +11,7 @@ use borrow.Author.Tests.{le-leb}
 use Rattle.laws.proofs.Cases.{order, cond-both}
 use Rattle.command.specs.declared.Draw.{Draw}
 use Rattle.command.specs.declared.Draw.the-variants.{Closed, Open}
-use Rattle.command.specs.Command.{waiting}
+use Rattle.command.specs.Command.{Found, unit, waiting, refused}
 use Rattle.command.specs.Prefix.{stageOf}
 use Rattle.command.specs.Promises.{lookAll}
 use Rattle.command.proofs.Refusals.{unless-waiting}
@@ -20,15 +20,18 @@ use Rattle.fifo.proofs.WindowLaws.{true-ready}
 use Rattle.queue.specs.Feeding.{roomOf, feedRefusal, accepted, bytesAccepted}
 use Rattle.processor.specs.State.{State}
 use Rattle.processor.specs.Gate.{gateOf}
-use Rattle.processor.specs.Step.{queueOf, lookAt, stepFound}
+use Rattle.processor.specs.Step.{queueOf, lookAt, stepFound, stepOf}
+use Rattle.processor.specs.Step as S
 use Rattle.processor.proofs.Passing.{gate-passes}
 use Rattle.running.specs.Run.{runOf}
 use Rattle.running.proofs.Invariant.{none-run}
-use Rattle.running.proofs.Waiting.{lacking-fits, run-waits}
-use Rattle.history.specs.Calls.{World, feed, run, queue, after, unitsAll}
-use Rattle.history.specs.Loading.{stageAt, Round, roundCalls, afterRound, FeedsLacking}
+use Rattle.running.proofs.Waiting.{lacking-fits}
+use Rattle.history.specs.Calls.{World, Call, feed, step, run, write, read, queue, after, answered, unitsOf, unitsAll}
+use Rattle.history.specs.Calls.{Harmless, AllHarmless}
+use Rattle.history.specs.Loading.{stageAt, feedsOf, feedsIn, FeedLacks, FeedsLacking}
 use Rattle.history.specs.Promises.{LackingAccepted, NextStage, ThreeFeeds}
 use Rattle.history.proofs.Fed.{feed-longer}
+use Rattle.history.proofs.Conserved.{written-kept}
 
 pub lacking-accepted : LackingAccepted
 unfolding stepFound accepted feedRefusal
@@ -39,12 +42,15 @@ lacking-accepted w bytes k e l =
     let room : length bytes ≤ roomOf (s .fifo .window) = omega (arith, lacking-fits (w .ring) s k e .1, l) in
     rw (true-ready (s .fifo) (length (w .ring)) ready, le-leb (length bytes) (roomOf (s .fifo .window)) room)
 
--- a step that waits, as a look at the queue
-looks : (ring : List ℕ) (s : State) (k : ℕ) → stepFound ring s ≡ waiting k → lookAll (queueOf ring s) (s .cp) (s .draw) ≡ waiting k
-unfolding stepFound lookAt
-looks ring s k e = unless-waiting (gateOf s (length ring)) (lookAt ring s) k e .1
+-- what a world's queue begins with, and a step that waits
+abbrev found : World → Found
+found w = lookAll (queue w) (w .state .cp) (w .state .draw)
 
-module _ (w : World) (bytes : List ℕ) (j : ℕ) (waits : stepFound (w .ring) (w .state) ≡ waiting (length bytes)) where
+looks : (w : World) (k : ℕ) → stepFound (w .ring) (w .state) ≡ waiting k → found w ≡ waiting k
+unfolding stepFound lookAt
+looks w k e = unless-waiting (gateOf (w .state) (length (w .ring))) (lookAt (w .ring) (w .state)) k e .1
+
+module _ (w : World) (bytes : List ℕ) (waits : stepFound (w .ring) (w .state) ≡ waiting (length bytes)) where
   abbrev w' : World
   w' = after w (feed bytes)
 
@@ -53,15 +59,14 @@ module _ (w : World) (bytes : List ℕ) (j : ℕ) (waits : stepFound (w .ring) (
   unfolding bytesAccepted
   queue-fed = rw (lacking-accepted w bytes (length bytes) waits (omega arith)) at (feed-longer w bytes .queue-is)
 
-  later : stepFound (w' .ring) (w' .state) ≡ waiting j → stageAt w < stageAt w'
-  later e =
+  later : (j : ℕ) → found w' ≡ waiting j → stageAt w < stageAt w'
+  later j e =
       let s : State = w .state in
-      let first = looks (w .ring) s (length bytes) waits in
-      let again : lookAll (queue w ++ bytes) (s .cp) (s .draw) ≡ waiting j = rw queue-fed at (looks (w' .ring) (w' .state) j e) in
-      rw queue-fed (waiting-promises .next (queue w) bytes (s .cp) (s .draw) (length bytes) j first refl again)
+      let again : lookAll (queue w ++ bytes) (s .cp) (s .draw) ≡ waiting j = rw queue-fed at e in
+      rw queue-fed (waiting-promises .next (queue w) bytes (s .cp) (s .draw) (length bytes) j (looks w (length bytes) waits) refl again)
 
 pub next-stage : NextStage
-next-stage w bytes j waits = later w bytes j waits
+next-stage w bytes j waits e = later w bytes waits j (looks (after w (feed bytes)) j e)
 
 -- ---- at most three feeds
 
@@ -71,53 +76,63 @@ stage-bounds Closed (op ∷ p) =
     cond-both (λ (n : ℕ). (1 ≤ n) × (n ≤ 3)) (eqb op 0x10 && ltb (length (op ∷ p)) 5) (λ _. (lit≤ tt, lit≤ tt)) (λ _. (lit≤ tt, lit≤ tt))
 stage-bounds (Open primitive format left) p = (lit≤ tt, lit≤ tt)
 
--- a step at a state waits, if it does, at a stage from g on
-abbrev From : ℕ → List ℕ → State → Type 0
-From g ring s = (j : ℕ) → stepFound ring s ≡ waiting j → g ≤ stageOf (s .draw) (queueOf ring s)
+-- a world waits, if it does, at a stage from g on
+abbrev From : ℕ → World → Type 0
+From g w = (j : ℕ) → found w ≡ waiting j → g ≤ stageAt w
 
--- after a feed of the lacking bytes, from a later one on
-from-next : (w : World) (bytes : List ℕ) → stepFound (w .ring) (w .state) ≡ waiting (length bytes) → (g : ℕ) → g ≤ stageAt w
-    → From (1 + g) (after w (feed bytes) .ring) (after w (feed bytes) .state)
-from-next w bytes waits g l j e = omega (arith, next-stage w bytes j waits e, l)
+from-first : (w : World) → From 1 w
+from-first w j e = stage-bounds (w .state .draw) (queue w) .0
 
--- one round before others, of which it is known from any stage on
-module _ (w : World) (r : Round) (rs : List Round)
-    (waits : runOf (w .ring) (r .limit) (w .state) .stop ≡ 255 ∷ length (r .bytes) ∷ []) where
-  abbrev w1 : World
-  w1 = after w (run (r .limit))
+-- a call takes a unit, or the world waits from g on as before, and after a feed from the next stage on
+abbrev Goes : ℕ → World → Call → Type 0
+Goes g w c = ((g + feedsOf c ≤ 4) × From (g + feedsOf c) (after w c)) ⊎ ((feedsOf c ≡ 0) × (1 ≤ length (unitsOf w c)))
 
-  abbrev w2 : World
-  w2 = after w1 (feed (r .bytes))
+module _ (w : World) (g : ℕ) (most : g ≤ 4) (from : From g w) where
+  same-from : From (g + 0) w
+  same-from j e = omega (arith, from j e)
 
-  -- the units of the round's run, and of the rounds after it
-  abbrev taken : ℕ
-  taken = length (runOf (w .ring) (r .limit) (w .state) .units)
+  goes-feed : (bytes : List ℕ) → FeedLacks w (feed bytes) → Goes g w (feed bytes)
+  goes-feed bytes waits =
+      let here = from (length bytes) (looks w (length bytes) waits) in
+      let last = stage-bounds (w .state .draw) (queue w) .1 in
+      inl (omega (arith, here, last), λ j e. omega (arith, here, later w bytes waits j e))
 
-  abbrev rest : ℕ
-  rest = length (unitsAll w2 (roundCalls rs))
+  goes-step : (x : Found) → stepFound (w .ring) (w .state) ≡ x → Goes g w step
+  unfolding stepOf
+  goes-step (unit c m n) e = inr (refl, rw e (lit≤ tt))
+  goes-step (waiting k) e = inl (omega arith, rw e same-from)
+  goes-step (refused r) e = inl (omega arith, rw e same-from)
 
-  at-w1 : stepFound (w1 .ring) (w1 .state) ≡ waiting (length (r .bytes))
-  at-w1 = run-waits (w .ring) (r .limit) (w .state) (length (r .bytes)) waits
-
-  round-few : ((g : ℕ) → g ≤ 4 → From g (w2 .ring) (w2 .state) → length rs + g ≤ 3 * rest + 4)
-      → (g : ℕ) → g ≤ 4 → From g (w .ring) (w .state) → length rs + 1 + g ≤ 3 * (taken + rest) + 4
-  round-few others g most from =
-      let stages = stage-bounds (w1 .state .draw) (queue w1) in
+  goes-run : (limit : ℕ) → Goes g w (run limit)
+  goes-run limit =
       ⊎-elim
       (λ none.
-      let left = none-run (w .ring) (r .limit) (w .state) (omega (arith, none)) in
-      let here : g ≤ stageAt w1 = subst (From g (w .ring)) (sym left) from (length (r .bytes)) at-w1 in
-      omega (arith, others (1 + g) (omega (arith, here, stages .1)) (from-next w1 (r .bytes) at-w1 g here)))
-      (λ some. omega (arith, some, most, others 2 (lit≤ tt) (from-next w1 (r .bytes) at-w1 1 (stages .0))))
-      (order taken 1)
+      let left = none-run (w .ring) limit (w .state) (omega (arith, none)) in
+      inl (omega arith, subst (λ (s : State). From (g + 0) (record { state = s; ring = w .ring })) (sym left) same-from))
+      (λ some. inr (refl, some))
+      (order (length (runOf (w .ring) limit (w .state) .units)) 1)
 
-rounds-few : (w : World) (rs : List Round) → FeedsLacking w rs → (g : ℕ) → g ≤ 4 → From g (w .ring) (w .state)
-    → length rs + g ≤ 3 * length (unitsAll w (roundCalls rs)) + 4
-unfolding unitsAll roundCalls
-rounds-few w [] h g most from = omega (arith, most)
-rounds-few w (r ∷ rs) h g most from =
-    let few = round-few w r rs (h .0) (rounds-few (afterRound w r) rs (h .1)) g most from in
-    omega (arith, few, length-append (runOf (w .ring) (r .limit) (w .state) .units) (unitsAll (afterRound w r) (roundCalls rs)))
+  goes-write : (offset value : ℕ) → Harmless (write offset value) → Goes g w (write offset value)
+  goes-write offset value h = inl (omega arith, rw (written-kept (w .state .fifo) offset value (w .ring) h) same-from)
+
+  goes : (c : Call) → Harmless c → FeedLacks w c → Goes g w c
+  goes (feed bytes) h l = goes-feed bytes l
+  goes step h l = goes-step (stepFound (w .ring) (w .state)) refl
+  goes (run limit) h l = goes-run limit
+  goes (write offset value) h l = goes-write offset value h
+  goes (read offset) h l = inl (omega arith, same-from)
+
+feeds-few : (w : World) (cs : List Call) → AllHarmless cs → FeedsLacking w cs → (g : ℕ) → g ≤ 4 → From g w
+    → feedsIn cs + g ≤ 3 * length (unitsAll w cs) + 4
+unfolding unitsAll feedsIn
+feeds-few w [] h l g most from = omega (arith, most)
+feeds-few w (c ∷ cs) h l g most from =
+    let rest = feeds-few (after w c) cs (h .1) (l .1) in
+    let both = length-append (unitsOf w c) (unitsAll (after w c) cs) in
+    ⊎-elim
+    (λ on. omega (arith, both, rest (g + feedsOf c) (on .0) (on .1)))
+    (λ took. omega (arith, both, took .0, took .1, most, rest 1 (lit≤ tt) (from-first (after w c))))
+    (goes w g most from c (h .0) (l .0))
 
 pub three-feeds : ThreeFeeds
-three-feeds w rs h = omega (arith, rounds-few w rs h 1 (lit≤ tt) (λ j e. stage-bounds (w .state .draw) (queue w) .0))
+three-feeds w cs h l = omega (arith, feeds-few w cs h l 1 (lit≤ tt) (from-first w))

@@ -1,33 +1,39 @@
--- A loader as a list of calls: it runs, and where the run waits it feeds just the bytes that are lacking
+-- Lists of calls by a loader that feeds only where the next unit is not all there, and then just the bytes that are lacking
 -- (document 02, L4: "Our loader polls a byte at a time").
 use mathlib.Core.Path.{_≡_}
 use mathlib.Core.List.{List, [], _∷_}
-use Prim.Native.Nat.{ℕ}
+use Prim.Native.Nat.{ℕ, _+_}
 use lib.ListN.{length}
+use Rattle.command.specs.Command.{waiting}
 use Rattle.command.specs.Prefix.{stageOf}
-use Rattle.running.specs.Run.{runOf}
-use Rattle.history.specs.Calls.{World, Call, feed, run, queue, after}
+use Rattle.processor.specs.Step.{stepFound}
+use Rattle.history.specs.Calls.{World, Call, feed, step, run, write, read, queue, after}
 
--- what a world's next unit is waited for, where it is: 1 its opcode, 2 the rest of an XF load's head, 3 the rest of the unit
+-- what a world waits for, where its next unit is not all there: 1 the opcode, 2 the rest of an XF load's head, 3 the rest of the unit
 abbrev pub stageAt : World → ℕ
 stageAt w = stageOf (w .state .draw) (queue w)
 
--- a run of some limit (one of 1 is a step), and the bytes that are fed after it
-pub record Round : Type 0 where
-  pub limit : ℕ
-  pub bytes : List ℕ
+-- how many of the calls are feeds
+abbrev pub feedsOf : Call → ℕ
+feedsOf (feed bytes) = 1
+feedsOf step = 0
+feedsOf (run limit) = 0
+feedsOf (write offset value) = 0
+feedsOf (read offset) = 0
 
--- the calls of rounds, one after the other
-unfoldable pub roundCalls : List Round → List Call
-roundCalls [] = []
-roundCalls (r ∷ rs) = run (r .limit) ∷ feed (r .bytes) ∷ roundCalls rs
+unfoldable pub feedsIn : List Call → ℕ
+feedsIn [] = 0
+feedsIn (c ∷ cs) = feedsOf c + feedsIn cs
 
--- the world after a round
-abbrev pub afterRound : World → Round → World
-afterRound w r = after (after w (run (r .limit))) (feed (r .bytes))
+-- a feed is of as many bytes as a step there says are lacking (a run that waits says the same: running/Promises `RunWaits`)
+abbrev pub FeedLacks : World → Call → Type 0
+FeedLacks w (feed bytes) = stepFound (w .ring) (w .state) ≡ waiting (length bytes)
+FeedLacks w step = Unit {0}
+FeedLacks w (run limit) = Unit {0}
+FeedLacks w (write offset value) = Unit {0}
+FeedLacks w (read offset) = Unit {0}
 
--- each run waits, and what is fed after it is as many bytes as it says are lacking
-abbrev pub FeedsLacking : World → List Round → Type 0
+-- every feed of a list is
+abbrev pub FeedsLacking : World → List Call → Type 0
 FeedsLacking w [] = Unit {0}
-FeedsLacking w (r ∷ rs) =
-    (runOf (w .ring) (r .limit) (w .state) .stop ≡ 255 ∷ length (r .bytes) ∷ []) × FeedsLacking (afterRound w r) rs
+FeedsLacking w (c ∷ cs) = FeedLacks w c × FeedsLacking (after w c) cs

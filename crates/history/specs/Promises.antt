@@ -24,7 +24,7 @@ use Rattle.processor.specs.Step.{stepFound, stepOf}
 use Rattle.running.specs.Run.{runOf}
 use Rattle.history.specs.Calls.{World, Call, feed, queue, countAt, after, fed, afterAll, fedAll, unitsAll, consumedBy, AllHarmless}
 use Rattle.history.specs.More.{NotWaiting, SameRun}
-use Rattle.history.specs.Loading.{stageAt, Round, roundCalls, FeedsLacking}
+use Rattle.history.specs.Loading.{stageAt, feedsIn, FeedsLacking}
 
 -- "Over any feeds and steps with no window register written between, bytes accepted minus bytes consumed by answered units equals the
 -- change in count." (proofs/Conserved)
@@ -33,7 +33,7 @@ Conserved =
     (w : World) (cs : List Call) → AllHarmless cs
     → countAt (afterAll w cs) + consumedBy (unitsAll w cs) ≡ countAt w + length (fedAll w cs)
 
--- "Answers other than waiting don't change when more bytes are fed." (proofs/Fed, and those below up to `FeedsJoined`)
+-- "Answers other than waiting don't change when more bytes are fed." (proofs/Fed, and those below up to `StepWords`)
 abbrev pub StepFed : Type 0
 StepFed =
     (w : World) (bytes : List ℕ) → Settled (stepFound (w .ring) (w .state))
@@ -90,16 +90,17 @@ LackingAccepted =
     (w : World) (bytes : List ℕ) (k : ℕ) → stepFound (w .ring) (w .state) ≡ waiting k → length bytes ≤ k
     → accepted (w .state .fifo) (w .ring) bytes ≡ true
 
--- after a feed of just these bytes a step takes the unit or is refused, or it waits for what comes after: the opcode, an XF load's head,
--- the rest of the unit
+-- after a feed of just as many as are lacking a step takes the unit or is refused, or it waits again, for a later one of these: 1 the
+-- opcode, 2 the rest of an XF load's head, 3 the rest of the unit
 abbrev pub NextStage : Type 0
 NextStage =
     (w : World) (bytes : List ℕ) (j : ℕ) → stepFound (w .ring) (w .state) ≡ waiting (length bytes)
     → stepFound (after w (feed bytes) .ring) (after w (feed bytes) .state) ≡ waiting j → stageAt w < stageAt (after w (feed bytes))
 
--- a loader that always feeds the lacking number takes at most three feeds for each unit, and for the one that it still waits for
+-- a loader that always feeds the lacking number, whatever steps and runs it makes, takes at most three feeds for each unit, and for the one
+-- not taken yet; no window register is written between
 abbrev pub ThreeFeeds : Type 0
-ThreeFeeds = (w : World) (rs : List Round) → FeedsLacking w rs → length rs ≤ 3 * (length (unitsAll w (roundCalls rs)) + 1)
+ThreeFeeds = (w : World) (cs : List Call) → AllHarmless cs → FeedsLacking w cs → feedsIn cs ≤ 3 * (length (unitsAll w cs) + 1)
 
 -- a state that passes 1 to 5 passes them after a run (proofs/Passes)
 abbrev pub RunPasses : Type 0

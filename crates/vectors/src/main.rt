@@ -17,4 +17,5 @@ fn main() {
     normals::others();
     units::metrics();
     units::waiting();
+    units::stopping();
 }

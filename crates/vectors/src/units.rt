@@ -51,43 +51,35 @@ pub fn metrics() {
     line::write(b"bytes left: ", ring::counted(left));
 }
 
-// The bytes that a run tells to be lacking; 1000 where its limit ended it, or 2000 and the refusal's number.
-fn lacking(bytes: &[u8], draw: Draw, limit: u32) -> u32 {
-    let ran = run(bytes, draw, limit);
+// The bytes that a run of one unit says are lacking, 0 where it does not wait.
+fn lacking(bytes: &[u8], draw: Draw) -> u32 {
+    let ran = run(bytes, draw, 1);
     let stop = ran.stop;
     match stop {
-        Stop::Limit => 1000,
         Stop::Waiting(lacking) => lacking,
-        Stop::Refused(reason) => 2000 + refusal::number(reason) as u32,
+        _ => 0,
     }
 }
 
 // "one for an empty ring with no draw open, then the rest of the unit, for an XF load first of its five-byte head, then of its words; in an
-// open draw, the rest of the vertex"; a run that its limit ended tells none, and 8 comes before waiting.
+// open draw, the rest of the vertex"
 pub fn waiting() {
     line::write(
         b"bytes lacking in an empty ring: ",
-        lacking(&[], Draw::Closed, 1),
+        lacking(&[], Draw::Closed),
     );
-    line::write(
-        b"bytes lacking after 08: ",
-        lacking(&[0x08], Draw::Closed, 1),
-    );
+    line::write(b"bytes lacking after 08: ", lacking(&[0x08], Draw::Closed));
     line::write(
         b"bytes lacking after 61 41: ",
-        lacking(&[0x61, 0x41], Draw::Closed, 1),
+        lacking(&[0x61, 0x41], Draw::Closed),
     );
     line::write(
         b"bytes lacking after 10 00: ",
-        lacking(&[0x10, 0x00], Draw::Closed, 1),
+        lacking(&[0x10, 0x00], Draw::Closed),
     );
     line::write(
         b"bytes lacking after 10 00 03 00 00: ",
-        lacking(&[0x10, 0x00, 0x03, 0x00, 0x00], Draw::Closed, 1),
-    );
-    line::write(
-        b"what 10 00 01 10 57 alone gives (2000 and the refusal): ",
-        lacking(&[0x10, 0x00, 0x01, 0x10, 0x57], Draw::Closed, 1),
+        lacking(&[0x10, 0x00, 0x03, 0x00, 0x00], Draw::Closed),
     );
     let draw = Draw::Open {
         primitive: 2,
@@ -96,10 +88,18 @@ pub fn waiting() {
     };
     line::write(
         b"bytes lacking in an empty ring, a draw of 12 bytes a vertex open: ",
-        lacking(&[], draw, 1),
+        lacking(&[], draw),
     );
-    line::write(
-        b"what a run of limit 1 over 00 gives (1000 for its limit): ",
-        lacking(&[0x00], Draw::Closed, 1),
-    );
+}
+
+// The fifth byte of an XF load gives 8 before anything is waited for; a run that its limit ends does not wait, although the ring is empty.
+pub fn stopping() {
+    let ran = run(&[0x10, 0x00, 0x01, 0x10, 0x57], Draw::Closed, 1);
+    let stop = ran.stop;
+    line::write(b"what stops a run over 10 00 01 10 57: ", stopped(stop));
+    let ran = run(&[0x00], Draw::Closed, 1);
+    let left = ran.fifo;
+    let stop = ran.stop;
+    line::write(b"what stops a run of limit 1 over 00: ", stopped(stop));
+    line::write(b"bytes left: ", ring::counted(left));
 }

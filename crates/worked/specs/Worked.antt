@@ -1,5 +1,5 @@
 -- "Worked numbers": the starred ones as one table. One computed test compares what the definitions give with what document 01 says, or
--- document 02 where it corrects it.
+-- document 02 where it corrects it or adds to it.
 -- A further row is added to `rows`, and the definitions that it opens to the lines under `worked`.
 use mathlib.Core.Path.{_≡_, refl, ap, _∙_}
 use mathlib.Core.Bool.{cond}
@@ -68,7 +68,7 @@ foundNumber (refused r) = 2000 + r
 abbrev twelveBytes : List ℕ
 twelveBytes = set (set (replicate 60 0) (vcdPlace 0) 0x200) (vatPlace 0 0) 9
 
--- what some bytes alone are
+-- what some bytes alone are, with these registers
 abbrev aloneBytes : List ℕ → Draw → ℕ
 aloneBytes bytes draw = foundNumber (lookOf bytes (length bytes) twelveBytes draw)
 

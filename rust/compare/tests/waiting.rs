@@ -1,8 +1,8 @@
 //! Document 02's L4, of the proved library and of the twin, in a ring of 256
-//! bytes: what a step and a run that wait tell to be lacking of every unit, cut
-//! anywhere and from several places of the ring; that a loader which feeds just
-//! that many has every feed accepted, and three are enough for a unit; and that a
-//! run which ends otherwise tells none.
+//! bytes: what a step and a run that wait say is lacking of a unit of every kind,
+//! cut at every byte, from several places of the ring; that a loader which feeds
+//! just that many has every feed accepted, and three are enough for a unit; and
+//! that a run which ends otherwise says nothing is lacking.
 #![forbid(unsafe_code)]
 
 use compare::side::{Proved, Side, Twin};
@@ -14,12 +14,12 @@ const SIZE: usize = 256;
 /// From the first place, from the middle, and round the end.
 const PLACES: [usize; 5] = [0, 100, SIZE - 70, SIZE - 5, SIZE - 1];
 const MOST_UNITS: u32 = 65_535;
-/// Chance that no call may take for an answer.
+/// What is lent holds this before a call; no answer is this number.
 const BEFORE: u32 = 0x5A5A_5A5A;
 const XF_LOAD: u8 = 0x10;
 const XF_HEAD: usize = 5;
 
-struct Bench {
+struct Machine {
     side: Box<dyn Side>,
     state: StateWords,
     ring: [u8; SIZE],
@@ -27,10 +27,10 @@ struct Bench {
     vertex: [u8; 129],
 }
 
-impl Bench {
+impl Machine {
     /// An empty ring from a place on; vertices of format 0 have 12 bytes, a
-    /// position of three f32.
-    fn new(side: Box<dyn Side>, place: usize) -> Bench {
+    /// position of three f32, and the position of format 1 has an unknown format.
+    fn new(side: Box<dyn Side>, place: usize) -> Machine {
         let mut state = [0; STATE_WORDS];
         side.fresh(&mut state);
         state[word::START] = START;
@@ -40,7 +40,8 @@ impl Bench {
         state[word::CONTROL] = 1;
         state[word::VCD_0] = 0x200;
         state[word::VAT] = 9;
-        Bench {
+        state[word::VAT + 3] = 5 << 1;
+        Machine {
             side,
             state,
             ring: [0xEE; SIZE],
@@ -107,10 +108,10 @@ impl Bench {
     }
 }
 
-fn benches(place: usize) -> [Bench; 2] {
+fn machines(place: usize) -> [Machine; 2] {
     [
-        Bench::new(Box::new(Proved), place),
-        Bench::new(Box::new(Twin), place),
+        Machine::new(Box::new(Proved), place),
+        Machine::new(Box::new(Twin), place),
     ]
 }
 
@@ -161,9 +162,9 @@ fn a_command_lacks_the_rest_of_its_stage() {
     for unit in commands() {
         for there in 0..unit.len() {
             for place in PLACES {
-                for mut bench in benches(place) {
-                    bench.feed(&unit[..there]);
-                    bench.waits(lacking(&unit, there));
+                for mut machine in machines(place) {
+                    machine.feed(&unit[..there]);
+                    machine.waits(lacking(&unit, there));
                 }
             }
         }
@@ -175,10 +176,10 @@ fn a_command_lacks_the_rest_of_its_stage() {
 fn a_vertex_lacks_its_rest() {
     for there in 0..12 {
         for place in PLACES {
-            for mut bench in benches(place) {
-                bench.open_draw(2);
-                bench.feed(&[XF_LOAD; 12][..there]);
-                bench.waits(12 - there);
+            for mut machine in machines(place) {
+                machine.open_draw(2);
+                machine.feed(&[XF_LOAD; 12][..there]);
+                machine.waits(12 - there);
             }
         }
     }
@@ -188,36 +189,36 @@ fn a_vertex_lacks_its_rest() {
 /// the end and a layout that is refused are refused as soon as they are seen.
 #[test]
 fn a_refusal_comes_before_waiting() {
-    for mut bench in benches(0) {
-        bench.feed(&[0x10, 0, 1, 0x10]);
-        bench.waits(1);
-        bench.feed(&[0x57]);
-        assert_eq!(bench.step(), (8, BEFORE));
-        assert_eq!(bench.run(MOST_UNITS), (8, 0, 0));
+    for mut machine in machines(0) {
+        machine.feed(&[0x10, 0, 1, 0x10]);
+        machine.waits(1);
+        machine.feed(&[0x57]);
+        assert_eq!(machine.step(), (8, BEFORE));
+        assert_eq!(machine.run(MOST_UNITS), (8, 0, 0));
     }
-    for (bytes, refusal) in [(&[0x68][..], 6), (&[0x08, 0x78], 7)] {
-        for mut bench in benches(0) {
-            bench.feed(bytes);
-            assert_eq!(bench.step(), (refusal, BEFORE));
-            assert_eq!(bench.run(MOST_UNITS), (refusal, 0, 0));
+    for (bytes, refusal) in [(&[0x68][..], 6), (&[0x08, 0x78], 7), (&[0x91], 10)] {
+        for mut machine in machines(0) {
+            machine.feed(bytes);
+            assert_eq!(machine.step(), (refusal, BEFORE));
+            assert_eq!(machine.run(MOST_UNITS), (refusal, 0, 0));
         }
     }
-    for mut bench in benches(0) {
-        bench.state[word::VCD_0] = 0;
-        bench.open_draw(2);
-        assert_eq!(bench.step(), (9, BEFORE));
-        assert_eq!(bench.run(MOST_UNITS), (9, 0, 0));
+    for mut machine in machines(0) {
+        machine.state[word::VCD_0] = 0;
+        machine.open_draw(2);
+        assert_eq!(machine.step(), (9, BEFORE));
+        assert_eq!(machine.run(MOST_UNITS), (9, 0, 0));
     }
 }
 
 /// Although the ring is empty then.
 #[test]
 fn a_run_ended_by_its_limit_tells_none() {
-    for mut bench in benches(SIZE - 1) {
-        assert_eq!(bench.run(0), (DONE, 0, 0));
-        bench.feed(&[0x00, 0x00]);
-        assert_eq!(bench.run(2), (DONE, 2, 0));
-        bench.waits(1);
+    for mut machine in machines(SIZE - 1) {
+        assert_eq!(machine.run(0), (DONE, 0, 0));
+        machine.feed(&[0x00, 0x00]);
+        assert_eq!(machine.run(2), (DONE, 2, 0));
+        machine.waits(1);
     }
 }
 
@@ -227,16 +228,16 @@ fn a_run_ended_by_its_limit_tells_none() {
 fn a_loader_that_steps() {
     let stream = units().concat();
     for place in 0..SIZE {
-        for mut bench in benches(place) {
+        for mut machine in machines(place) {
             let (mut at, mut done, mut feeds) = (0, 0, 0);
             while at < stream.len() || done < units().len() {
-                match bench.step() {
+                match machine.step() {
                     (WAITING, lacking) => {
-                        assert!((1..=bench.room()).contains(&lacking));
+                        assert!((1..=machine.room()).contains(&lacking));
                         let end = at + lacking as usize;
-                        bench.feed(&stream[at..end]);
+                        machine.feed(&stream[at..end]);
                         (at, feeds) = (end, feeds + 1);
-                        assert!(feeds <= 3, "{}: unit {done}", bench.side.name());
+                        assert!(feeds <= 3, "{}: unit {done}", machine.side.name());
                     }
                     (answer, _) => {
                         assert_eq!(answer, DONE);
@@ -244,7 +245,7 @@ fn a_loader_that_steps() {
                     }
                 }
             }
-            bench.waits(1);
+            machine.waits(1);
         }
     }
 }
@@ -254,24 +255,24 @@ fn a_loader_that_steps() {
 #[test]
 fn a_loader_that_runs() {
     let stream = units().concat();
-    for mut bench in benches(200) {
+    for mut machine in machines(200) {
         let (mut at, mut done, mut feeds) = (0, 0, 0);
         loop {
-            let (answer, units, lacking) = bench.run(MOST_UNITS);
+            let (answer, units, lacking) = machine.run(MOST_UNITS);
             assert_eq!(answer, WAITING);
             done += units;
             if at == stream.len() {
                 break;
             }
-            assert!((1..=bench.room()).contains(&lacking));
+            assert!((1..=machine.room()).contains(&lacking));
             let end = at + lacking as usize;
-            bench.feed(&stream[at..end]);
+            machine.feed(&stream[at..end]);
             (at, feeds) = (end, feeds + 1);
             assert!(feeds <= 3 * (done + 1));
         }
         assert_eq!(done as usize, units().len());
-        // One of a byte each, three XF loads of three feeds, two vertices of one,
-        // and two for each of the others.
+        // One feed for each of the three units of one byte, three for each of the
+        // three XF loads, one for each of the two vertices, two for each other unit.
         assert_eq!(feeds, 3 + 3 * 3 + 2 + 2 * 8);
     }
 }
