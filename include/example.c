@@ -117,15 +117,16 @@ static void decode_position(void)
 /* Runs, and where the run waits reads and feeds just the bytes that are lacking. */
 static void load(const uint8_t *bytes, size_t length)
 {
-    uint32_t report[DUCKHAMMOCK_REPORT_WORDS], answer, loaded = 0, feeds = 0;
+    uint32_t report[DUCKHAMMOCK_REPORT_WORDS], answer, lacking, loaded = 0, feeds = 0;
     for (;;) {
         answer = duckhammock_run(state, LENT, DUCKHAMMOCK_MOST_UNITS, report);
         loaded += report[DUCKHAMMOCK_REPORT_UNITS];
-        if (answer != DUCKHAMMOCK_WAITING || length < report[DUCKHAMMOCK_REPORT_LACKING])
+        lacking = report[DUCKHAMMOCK_REPORT_LACKING];
+        if (answer != DUCKHAMMOCK_WAITING || lacking == 0 || length < lacking)
             break;
-        feed("what is lacking", bytes, report[DUCKHAMMOCK_REPORT_LACKING]);
-        bytes += report[DUCKHAMMOCK_REPORT_LACKING];
-        length -= report[DUCKHAMMOCK_REPORT_LACKING];
+        feed("what is lacking", bytes, lacking);
+        bytes += lacking;
+        length -= lacking;
         feeds++;
     }
     expect("last run", answer, DUCKHAMMOCK_WAITING);

@@ -1,4 +1,4 @@
--- Kinds of answers, and what one that waits asks for: words for what looks at fewer and at more bytes promise (Promises).
+-- Kinds of answers, and what one that waits asks for: definitions for what looks at fewer and at more bytes promise (Promises).
 use mathlib.Core.Path.{_≡_}
 use mathlib.Core.Bool.{cond, _&&_}
 use mathlib.Core.Logic.{_⊎_}

@@ -42,7 +42,7 @@ pub record CallsPromises : Type 0 where
       → saidBy lent' ≡ runOf ring limit (stateAt words xf vertex) .state
 
 -- Document 02, L4: "It is at least 1 and never more than the ring's free room", of the number that a call on words tells where it answers
--- 255. The premises are the calls' contracts as they stand, and 327 words and bytes of the ring, which are the parameters' types.
+-- 255. The premises are the calls' contracts as they stand, and what the parameters' types say: 327 words, and a ring of bytes.
 pub record LackingPromises : Type 0 where
   -- a step
   pub of-step : (ring words xf vertex unit : List ℕ) (lacking r : ℕ) (lent' : Lent) (unit' : List ℕ) (lacking' : ℕ)

@@ -1,5 +1,5 @@
 -- A loader that always feeds the lacking number: each of its feeds is accepted, and three are enough for a unit.
-use mathlib.Core.Path.{_≡_, refl, sym, ap, subst}
+use mathlib.Core.Path.{_≡_, refl, sym, subst}
 use mathlib.Core.Bool.{_&&_}
 use mathlib.Core.Logic.{_⊎_, inl, inr, ⊎-elim}
 use mathlib.Core.List.{List, [], _∷_, _++_}
@@ -20,13 +20,12 @@ use Rattle.fifo.proofs.WindowLaws.{true-ready}
 use Rattle.queue.specs.Feeding.{roomOf, feedRefusal, accepted, bytesAccepted}
 use Rattle.processor.specs.State.{State}
 use Rattle.processor.specs.Gate.{gateOf}
-use Rattle.processor.specs.Step.{queueOf, lookAt, stepFound, stepOf}
-use Rattle.processor.specs.Step as S
+use Rattle.processor.specs.Step.{lookAt, stepFound, stepOf}
 use Rattle.processor.proofs.Passing.{gate-passes}
 use Rattle.running.specs.Run.{runOf}
 use Rattle.running.proofs.Invariant.{none-run}
 use Rattle.running.proofs.Waiting.{lacking-fits}
-use Rattle.history.specs.Calls.{World, Call, feed, step, run, write, read, queue, after, answered, unitsOf, unitsAll}
+use Rattle.history.specs.Calls.{World, Call, feed, step, run, write, read, queue, after, unitsOf, unitsAll}
 use Rattle.history.specs.Calls.{Harmless, AllHarmless}
 use Rattle.history.specs.Loading.{stageAt, feedsOf, feedsIn, FeedLacks, FeedsLacking}
 use Rattle.history.specs.Promises.{LackingAccepted, NextStage, ThreeFeeds}

@@ -8,7 +8,7 @@ use lib.Seq.{take-append-le, drop-append-le}
 use Rattle.octets.proofs.Number.{Octets}
 use Rattle.command.specs.Command.{Found, unit, waiting, refused}
 use Rattle.command.specs.Look.{unlessRefused}
-use Rattle.command.proofs.Extends.{Settled}
+use Rattle.command.specs.Prefix.{Settled}
 use Rattle.command.proofs.Prefix.{look-prefix}
 use Rattle.effect.specs.Effect.{cpAfter, bpAfter, drawAfter}
 use Rattle.queue.proofs.CursorLaws.{reads-pending}

@@ -33,7 +33,7 @@ FeedLacks w (run limit) = Unit {0}
 FeedLacks w (write offset value) = Unit {0}
 FeedLacks w (read offset) = Unit {0}
 
--- every feed of a list is
+-- every feed of a list is of so many
 abbrev pub FeedsLacking : World → List Call → Type 0
 FeedsLacking w [] = Unit {0}
 FeedsLacking w (c ∷ cs) = FeedLacks w c × FeedsLacking (after w c) cs

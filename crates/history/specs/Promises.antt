@@ -98,7 +98,7 @@ NextStage =
     → stepFound (after w (feed bytes) .ring) (after w (feed bytes) .state) ≡ waiting j → stageAt w < stageAt (after w (feed bytes))
 
 -- a loader that always feeds the lacking number, whatever steps and runs it makes, takes at most three feeds for each unit, and for the one
--- not taken yet; no window register is written between
+-- not taken yet: of calls that take no unit, at most three are feeds. No window register is written between
 abbrev pub ThreeFeeds : Type 0
 ThreeFeeds = (w : World) (cs : List Call) → AllHarmless cs → FeedsLacking w cs → feedsIn cs ≤ 3 * (length (unitsAll w cs) + 1)
 

@@ -174,10 +174,10 @@ pub fn play(duo: &mut Duo, random: &mut Random, bytes: &[u8], pace: Pace) {
 
 /// Feeds just the bytes that are lacking, as a step or a run tells them, until
 /// the stream ends or a unit is refused.
-pub fn load(duo: &mut Duo, random: &mut Random, bytes: &[u8], by_runs: bool) {
+pub fn load(duo: &mut Duo, random: &mut Random, bytes: &[u8]) {
     let mut rest = bytes;
     while duo.fault().is_none() {
-        let (answer, lacking) = if by_runs {
+        let (answer, lacking) = if random.once_in(2) {
             let (answer, [_, lacking]) = duo.run(random.between(1, 40));
             (answer, lacking)
         } else {

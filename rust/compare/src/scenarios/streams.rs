@@ -57,8 +57,7 @@ pub fn loaded(duo: &mut Duo, random: &mut Random) {
     if random.once_in(3) {
         units.add_refused(random);
     }
-    let by_runs = random.once_in(2);
-    load(duo, random, &units.bytes(), by_runs);
+    load(duo, random, &units.bytes());
 }
 
 /// Units with bytes changed, put in or left out, and opcodes that are none
