@@ -43,11 +43,11 @@ fair-unless : (n r : ℕ) (x : Found) → Named r → (r ≡ 0 → Fair n x) →
 fair-unless n zero x h f = f refl
 fair-unless n (suc r) x h f = h (omega arith)
 
-module _ (b : List ℕ) (n : ℕ) where
-  words-most : (xfWords b ≤ 16) × (1 ≤ xfWords b)
-  unfolding xfWords
-  words-most = (omega arith, omega arith)
+pub words-bounds : (b : List ℕ) → (1 ≤ xfWords b) × (xfWords b ≤ 16)
+unfolding xfWords
+words-bounds b = (omega arith, omega arith)
 
+module _ (b : List ℕ) (n : ℕ) where
   fair-cp : 1 ≤ n → Fair n (lookCp b n)
   unfolding lookCp
   fair-cp h =
@@ -59,7 +59,7 @@ module _ (b : List ℕ) (n : ℕ) where
   fair-xf =
       cond-both (Fair n) (ltb n 5) (λ t. let l : n < 5 = ltb-true n 5 t in (omega arith, omega arith))
       (λ _. cond-both (Fair n) (ltb xfCount (xfAddress b + xfWords b)) (λ _. (lit≤ tt, lit≤ tt))
-      (λ _. fair-whole n (5 + 4 * xfWords b) _ 0 (omega arith) (omega (arith, words-most))))
+      (λ _. fair-whole n (5 + 4 * xfWords b) _ 0 (omega arith) (omega (arith, words-bounds b .1))))
 
   fair-bp : Fair n (lookBp b n)
   unfolding lookBp

@@ -44,16 +44,16 @@ pub record Extends (E : Type 0) (n n' : ℕ) (x y : Found) : Type 0 where
 no : {A : Type 0} → _≡_ {A = ℕ} 0 1 → A
 no e = absurd (omega (arith, e))
 
-unit-settled : (c : List ℕ) (m l : ℕ) → Settled (unit c m l)
+pub unit-settled : (c : List ℕ) (m l : ℕ) → Settled (unit c m l)
 unit-settled c m l k e = let z : _≡_ {A = ℕ} 0 1 = cc in omega arith
 
-refused-settled : (r : ℕ) → Settled (refused r)
+pub refused-settled : (r : ℕ) → Settled (refused r)
 refused-settled r k e = let z : _≡_ {A = ℕ} 0 1 = cc in omega arith
 
 waiting-no-unit : (k : ℕ) → NoUnit (waiting k)
 waiting-no-unit k c m l e = let z : _≡_ {A = ℕ} 0 1 = cc in omega arith
 
-refused-no-unit : (r : ℕ) → NoUnit (refused r)
+pub refused-no-unit : (r : ℕ) → NoUnit (refused r)
 refused-no-unit r c m l e = let z : _≡_ {A = ℕ} 0 1 = cc in omega arith
 
 no-unit-longer : (n : ℕ) {x : Found} → NoUnit x → Longer n x
@@ -142,9 +142,13 @@ xf-longer p n n' h =
     (λ _. cond-both (Longer n) (ltb xfCount (xfAddress p + xfWords p)) (λ _. no-unit-longer n (refused-no-unit 8))
     (λ _. whole-longer n n' (5 + 4 * xfWords p) _ 0 (omega arith)))
 
-xf-below : (p : List ℕ) (n : ℕ) → n < 5 → NoUnit (lookXf p n)
+-- a part of its head
+pub xf-first : (p : List ℕ) (n : ℕ) → n < 5 → lookXf p n ≡ waiting (5 - n)
 unfolding lookXf
-xf-below p n h = rw (lt-ltb n 5 h) (waiting-no-unit (5 - n))
+xf-first p n h = rw (lt-ltb n 5 h)
+
+xf-below : (p : List ℕ) (n : ℕ) → n < 5 → NoUnit (lookXf p n)
+xf-below p n h = rw (xf-first p n h) (waiting-no-unit (5 - n))
 
 module _ (E : Type 0) (p p' : List ℕ) (n n' : ℕ) (more : n ≤ n') (same : (k : ℕ) → k < n → getD p k 0 ≡ getD p' k 0) where
   -- a number whose bytes are there stays
@@ -173,10 +177,6 @@ module _ (E : Type 0) (p p' : List ℕ) (n n' : ℕ) (more : n ≤ n') (same : (
       cp-later
       (order n 2)
 
-  xf-first : n < 5 → lookXf p n ≡ waiting (5 - n)
-  unfolding lookXf
-  xf-first h = rw (lt-ltb n 5 h)
-
   xf-later : 5 ≤ n → Extends E n n' (lookXf p n) (lookXf p' n')
   unfolding lookXf xfWords xfAddress
   xf-later h =
@@ -191,7 +191,7 @@ module _ (E : Type 0) (p p' : List ℕ) (n n' : ℕ) (more : n ≤ n') (same : (
   ext-xf exempt =
       ⊎-elim
       (λ h.
-      rw (xf-first h)
+      rw (xf-first p n h)
       (ext-waiting E n n' more (5 - n) (λ g. xf-below p' n' (omega arith)) (λ g u. absurd (u (exempt h))) (xf-longer p' n n' h)))
       xf-later
       (order n 5)

@@ -12,24 +12,18 @@ use Rattle.laws.proofs.Cases.{tested, order, and-left, and-right, cond-both}
 use Rattle.layout.specs.Answers.{refusalOf}
 use Rattle.command.specs.declared.Draw.{Draw}
 use Rattle.command.specs.declared.Draw.the-variants.{Closed, Open}
-use Rattle.command.specs.Command.{Found, unit, waiting, refused, vertex}
+use Rattle.command.specs.Command.{Found, unit, waiting, vertex}
 use Rattle.command.specs.Look.{whole, xfCount, xfWords, xfAddress, lookXf, descriptorOf, vertexBytes, lookVertex, byOpcode, lookOf}
 use Rattle.command.specs.Prefix.{Settled, stageOf, HeadRead}
 use Rattle.command.specs.Promises.{lookAll, WaitingPromises}
 use Rattle.command.proofs.Opcodes.{at-opcode}
 use Rattle.command.proofs.Refusals.{unless-waiting}
-use Rattle.command.proofs.Bounds.{Fair, look-fair}
-use Rattle.command.proofs.Extends.{Heads, look-extends}
+use Rattle.command.proofs.Bounds.{Fair, words-bounds, look-fair}
+use Rattle.command.proofs.Extends.{Heads, unit-settled, refused-settled, xf-first, look-extends}
 use Rattle.command.proofs.Prefix.{look-fewer, look-just, look-lacking}
 
 same : {j k : ℕ} → waiting j ≡ waiting k → j ≡ k
 same e = cc
-
-no-unit : {A : Type 0} {c : List ℕ} {m l k : ℕ} → unit c m l ≡ waiting k → A
-no-unit e = let z : _≡_ {A = ℕ} 0 1 = cc in absurd (omega (arith, z))
-
-no-refusal : {A : Type 0} {r k : ℕ} → refused r ≡ waiting k → A
-no-refusal e = let z : _≡_ {A = ℕ} 0 1 = cc in absurd (omega (arith, z))
 
 -- a unit that waits, by its length
 whole-waits : (n length : ℕ) (c : List ℕ) (m k : ℕ) → whole n length c m ≡ waiting k → n + k ≡ length
@@ -37,7 +31,7 @@ unfolding whole
 whole-waits n length c m k =
     cond-both (λ (x : Found). x ≡ waiting k → n + k ≡ length) (ltb n length)
     (λ t e. let h : n < length = ltb-true n length t in let z : length - n ≡ k = same e in omega arith)
-    (λ _ e. no-unit e)
+    (λ _ e. absurd (unit-settled c m length k e))
 
 opcode-first : (cp : List ℕ) → lookAll [] cp Closed ≡ waiting 1
 unfolding lookOf
@@ -56,20 +50,11 @@ at-xf : (p : List ℕ) (n : ℕ) (cp : List ℕ) → getD p 0 0 ≡ 0x10 → 1 �
 unfolding byOpcode
 at-xf p n cp e h = at-opcode p n cp e (λ z. omega arith)
 
--- at part of its head
-at-part : (p : List ℕ) (n : ℕ) → n < 5 → lookXf p n ≡ waiting (5 - n)
-unfolding lookXf
-at-part p n h = rw (lt-ltb n 5 h)
-
-words-some : (p : List ℕ) → 1 ≤ xfWords p
-unfolding xfWords
-words-some p = omega arith
-
 -- at five bytes
 at-five : (p : List ℕ) (n : ℕ) → n ≡ 5 → HeadRead p (lookXf p n)
 unfolding lookXf whole
 at-five p n e =
-    let few : 5 < 5 + 4 * xfWords p = omega (arith, words-some p) in
+    let few : 5 < 5 + 4 * xfWords p = omega (arith, words-bounds p .0) in
     let rest : 5 + 4 * xfWords p - 5 ≡ 4 * xfWords p = omega arith in
     rw e
     (cond-both (HeadRead p) (ltb xfCount (xfAddress p + xfWords p)) (λ _. inl refl)
@@ -80,7 +65,8 @@ at-words : (p : List ℕ) (n k : ℕ) → 5 ≤ n → lookXf p n ≡ waiting k �
 unfolding lookXf
 at-words p n k h =
     rw (le-ltb n 5 h)
-    (cond-both (λ (x : Found). x ≡ waiting k → n + k ≡ 5 + 4 * xfWords p) (ltb xfCount (xfAddress p + xfWords p)) (λ _ e. no-refusal e)
+    (cond-both (λ (x : Found). x ≡ waiting k → n + k ≡ 5 + 4 * xfWords p) (ltb xfCount (xfAddress p + xfWords p))
+    (λ _ e. absurd (refused-settled 8 k e))
     (λ _ e. whole-waits n (5 + 4 * xfWords p) _ 0 k e))
 
 head-read : (p cp : List ℕ) → getD p 0 0 ≡ 0x10 → length p ≡ 5 → HeadRead p (lookAll p cp Closed)
@@ -113,7 +99,7 @@ head-first : (p cp : List ℕ) → stageOf Closed p ≡ 2 → lookAll p cp Close
 head-first [] cp e = absurd (omega (arith, e))
 head-first (op ∷ p) cp e =
     ⊎-elim
-    (λ t. let h = is-head op p t in sym (at-xf (op ∷ p) _ cp (h .0) (omega arith)) ∙ at-part (op ∷ p) _ (h .1))
+    (λ t. let h = is-head op p t in sym (at-xf (op ∷ p) _ cp (h .0) (omega arith)) ∙ xf-first (op ∷ p) _ (h .1))
     (λ f. let z : _≡_ {A = ℕ} 3 2 = rw f at e in absurd (omega (arith, z)))
     (tested (in-head op p))
 
@@ -150,7 +136,7 @@ module _ (p b : List ℕ) (n n' : ℕ) (more : n ≤ n') (begins : (i : ℕ) →
   more-than : n < l
   more-than =
       ⊎-elim (λ h. h)
-      (λ h. no-unit (sym (look-extends p b n n' more begins cp draw .alone c m l is h ∙ is) ∙ waits))
+      (λ h. absurd (unit-settled c m l k (sym (look-extends p b n n' more begins cp draw .alone c m l is h ∙ is) ∙ waits)))
       (order n l)
 
   -- not fewer than are lacking

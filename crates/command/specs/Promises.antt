@@ -23,8 +23,8 @@ pub record LookPromises : Type 0 where
   -- "A full ring is never answered with waiting": with 129 bytes or more no answer is
   pub progress : (b : List ℕ) (n : ℕ) → 129 ≤ n → (cp : List ℕ) (draw : Draw) (k : ℕ) → lookOf b n cp draw ≡ waiting k → ⊥
 
--- Document 02, L4: "Let waiting carry the number of bytes lacking for the unit". What an answer at the bytes p says that waits, and when
--- one waits.
+-- Document 02, L4: "Let waiting carry the number of bytes lacking for the unit". Of answers that wait: for how many bytes, and what comes
+-- after them.
 pub record WaitingPromises : Type 0 where
   -- "one for an empty ring with no draw open"
   pub opcode : (cp : List ℕ) → lookAll [] cp Closed ≡ waiting 1

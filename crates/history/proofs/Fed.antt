@@ -11,23 +11,21 @@ use borrow.Author.Tests.{eqb-false}
 use Rattle.laws.proofs.Cases.{tested, cond-both}
 use Rattle.command.specs.declared.Command.the-variants.{LoadXf}
 use Rattle.command.specs.Command.{numbersOf, loadXf}
-use Rattle.command.proofs.Refusals.{unless-waiting}
-use Rattle.command.proofs.Bounds.{progress}
 use Rattle.writer.specs.Write.{wordsOf, commandBytes}
 use Rattle.writer.specs.Again.{heldWords}
 use Rattle.writer.proofs.Back.{looks-back}
 use Rattle.writer.proofs.Loads.{loads-back}
 use Rattle.fifo.specs.declared.Fifo.{Fifo}
-use Rattle.fifo.specs.Window.{readyBy, countOf}
+use Rattle.fifo.specs.Window.{readyBy}
 use Rattle.queue.specs.Feeding.{accepted, bytesAccepted, fifoAfter, ringAfter}
 use Rattle.fifo.proofs.WindowLaws.{true-ready}
 use Rattle.queue.proofs.FeedLaws.{Fits, accepted-fits, pending-after, ready-after, refused-left}
-use Rattle.queue.proofs.Pending.{length-pending}
 use Rattle.fifo.specs.Window.{accept}
 use Rattle.processor.specs.State.{State}
 use Rattle.processor.specs.Gate.{stateFits, gateBy, gateOf}
-use Rattle.processor.specs.Step.{queueOf, lookAt, executed, stepFound, stepOf}
+use Rattle.processor.specs.Step.{lookAt, executed, stepFound, stepOf}
 use Rattle.processor.proofs.Passing.{Passes, gate-passes}
+use Rattle.running.proofs.Waiting.{lacking-fits}
 use Rattle.history.specs.Calls.{World, feed, after}
 use Rattle.history.specs.More.{Longer}
 use Rattle.history.specs.Promises.{StepFed, RunFed, FullNeverWaits, StepWritten, StepWords}
@@ -86,13 +84,7 @@ run-fed w bytes o h limit = run-longer limit o (fed-octets (w .state .fifo) (w .
 
 -- ---- "A full ring is never answered with waiting."
 pub full-never-waits : FullNeverWaits
-unfolding stepFound lookAt
-full-never-waits w r full k e =
-    let s : State = w .state in
-    let q : List ℕ = queueOf (w .ring) s in
-    let l : length q ≡ countOf (s .fifo .window) = length-pending (s .fifo .window) (w .ring) in
-    progress q (length q) (omega (arith, r .valid .least)) (s .cp) (s .draw) k
-    (unless-waiting (gateOf s (length (w .ring))) (lookAt (w .ring) s) k e .1)
+full-never-waits w r full k e = omega (arith, lacking-fits (w .ring) (w .state) k e, full)
 
 -- ---- "Stepping a written command, alone in a ring that passes 1 to 5 with no draw open, gives it back, for a draw head unless 9 or 10."
 pub step-written : StepWritten

@@ -1,13 +1,13 @@
 -- What a call does to the queue: the bytes that it accepts come to the end, and those of the units that it answers leave the front.
 use mathlib.Core.Path.{_≡_, refl, sym, ap, _∙_}
 use mathlib.Core.List.{List, [], _∷_}
-use Prim.Native.Nat.{ℕ, zero, suc, _+_, _-_, _≤_}
+use Prim.Native.Nat.{ℕ, _+_, _-_, _≤_}
 use native.Mathlib.Nat.{add-zero}
 use native.Mathlib.Omega.{arith}
 use lib.ListN.{length, drop, length-drop}
 use lib.Seq.{drop-drop}
 use Rattle.command.specs.Command.{Found, unit, waiting, refused}
-use Rattle.command.specs.Look.{unlessRefused}
+use Rattle.command.proofs.Refusals.{unless-unit}
 use Rattle.queue.proofs.CursorLaws.{reads-pending}
 use Rattle.queue.proofs.Pending.{length-pending}
 use Rattle.processor.specs.State.{State}
@@ -20,12 +20,8 @@ use Rattle.processor.proofs.Passing.{Passes, gate-passes}
 use Rattle.processor.proofs.Bridge.{unit-fits}
 use Rattle.history.specs.Calls.{after, answered, consumedBy}
 
--- ---- a unit is answered only past the gate
-unless-unit : (r : ℕ) (x : Found) (c : List ℕ) (m n : ℕ) → unlessRefused r x ≡ unit c m n → (r ≡ 0) × (x ≡ unit c m n)
-unless-unit zero x c m n e = (refl, e)
-unless-unit (suc r) x c m n e = let z : _≡_ {A = ℕ} 0 1 = cc in absurd (omega (arith, z))
-
 module _ (ring : List ℕ) (s : State) where
+  -- a unit is answered only past the gate
   pub step-unit : (c : List ℕ) (m n : ℕ) → stepFound ring s ≡ unit c m n → Passes s (length ring) × (lookAt ring s ≡ unit c m n)
   unfolding stepFound
   step-unit c m n e =

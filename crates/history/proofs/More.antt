@@ -9,6 +9,7 @@ use Rattle.octets.proofs.Number.{Octets}
 use Rattle.command.specs.Command.{Found, unit, waiting, refused}
 use Rattle.command.specs.Look.{unlessRefused}
 use Rattle.command.specs.Prefix.{Settled}
+use Rattle.command.proofs.Extends.{unit-settled, refused-settled}
 use Rattle.command.proofs.Prefix.{look-prefix}
 use Rattle.effect.specs.Effect.{cpAfter, bpAfter, drawAfter}
 use Rattle.queue.proofs.CursorLaws.{reads-pending}
@@ -23,9 +24,6 @@ use Rattle.processor.proofs.Bridge.{unit-fits}
 use Rattle.processor.proofs.Valid.{step-passes}
 use Rattle.history.specs.More.{Longer, NotWaiting, SameRun}
 use Rattle.history.proofs.Flow.{step-unit}
-
-unit-no-waiting : {c : List ℕ} {m n k : ℕ} → unit c m n ≡ waiting k → ⊥
-unit-no-waiting e = let z : _≡_ {A = ℕ} 0 1 = cc in omega arith
 
 -- a step that found a unit executed it
 stepped : (ring : List ℕ) (s : State) (c : List ℕ) (m n : ℕ) → stepFound ring s ≡ unit c m n → stepOf ring s ≡ executed ring s c n
@@ -53,15 +51,17 @@ module _ {ring : List ℕ} {s : State} {ring' : List ℕ} {t : State} {more : Li
   executed-longer o o' c m n e =
       let q : List ℕ = queueOf ring s in
       let u = step-unit ring s c m n e in
-      let settled : Settled (stepFound ring s) = λ k h. unit-no-waiting (sym e ∙ h) in
+      let settled : Settled (stepFound ring s) = λ k h. unit-settled c m n k (sym e ∙ h) in
       let e' : stepFound ring' t ≡ unit c m n = step-longer settled ∙ e in
       let u' = step-unit ring' t c m n e' in
       let f = unit-fits ring s (u .0 .ready) c m n (sym (u .1)) in
       let f' = unit-fits ring' t (u' .0 .ready) c m n (sym (u' .1)) in
       let here : n ≤ length q = omega (arith, f .1 .0, length-pending (s .fifo .window) ring) in
       let bytes : take n (queueOf ring' t) ≡ take n q = ap (take n) (l .queue-is) ∙ take-append-le n q more here in
-      let g : gateOf (executed ring s c n) (length ring) ≡ 0 = rw (stepped ring s c m n e) at (step-passes ring o s (passes-gate s (length ring) (u .0))) in
-      let g' : gateOf (executed ring' t c n) (length ring') ≡ 0 = rw (stepped ring' t c m n e') at (step-passes ring' o' t (passes-gate t (length ring') (u' .0))) in
+      let passed = step-passes ring o s (passes-gate s (length ring) (u .0)) in
+      let passed' = step-passes ring' o' t (passes-gate t (length ring') (u' .0)) in
+      let g : gateOf (executed ring s c n) (length ring) ≡ 0 = rw (stepped ring s c m n e) at passed in
+      let g' : gateOf (executed ring' t c n) (length ring') ≡ 0 = rw (stepped ring' t c m n e') at passed' in
       record {
         cp-is = ap (cpAfter c) (l .cp-is);
         bp-is = ap (bpAfter c) (l .bp-is);
@@ -77,20 +77,25 @@ module _ {ring : List ℕ} {s : State} {ring' : List ℕ} {t : State} {more : Li
       }
 
 -- ---- steps
-gone-longer : {ring : List ℕ} {s : State} {ring' : List ℕ} {t : State} {more : List ℕ} → Longer ring s ring' t more → (found : Found) (e d : Ended)
+gone-longer : {ring : List ℕ} {s : State} {ring' : List ℕ} {t : State} {more : List ℕ} → Longer ring s ring' t more
+    → (found : Found) (e d : Ended)
     → ((c : List ℕ) (m n : ℕ) → found ≡ unit c m n → NotWaiting (e .stop) → SameRun ring e ring' d more)
     → NotWaiting (goneOn found s e .stop) → SameRun ring (goneOn found s e) ring' (goneOn found t d) more
 gone-longer l (unit c m n) e d f h =
     let r = f c m n refl h in
-    record { units-are = ap (λ (us : List Taken). record { command = c; memory = m; length = n } ∷ us) (r .units-are); stop-is = r .stop-is; state-is = r .state-is }
+    record {
+      units-are = ap (λ (us : List Taken). record { command = c; memory = m; length = n } ∷ us) (r .units-are);
+      stop-is = r .stop-is;
+      state-is = r .state-is;
+    }
 gone-longer l (waiting k) e d f h = absurd (h k refl)
 gone-longer l (refused r) e d f h = record { units-are = refl; stop-is = refl; state-is = l }
 
 -- a first answer that ends by waiting is one
 first-settled : (found : Found) (s : State) (e : Ended) → NotWaiting (goneOn found s e .stop) → Settled found
-first-settled (unit c m n) s e h k x = unit-no-waiting x
-first-settled (waiting j) s e h k x = h j refl
-first-settled (refused r) s e h k x = let z : _≡_ {A = ℕ} 0 1 = cc in omega arith
+first-settled (unit c m n) s e h = unit-settled c m n
+first-settled (waiting j) s e h = λ k x. h j refl
+first-settled (refused r) s e h = refused-settled r
 
 pub steps-longer : (n : ℕ) {ring : List ℕ} {s : State} {ring' : List ℕ} {t : State} {more : List ℕ} → Octets ring → Octets ring'
     → Longer ring s ring' t more → NotWaiting (steps ring n s .stop) → SameRun ring (steps ring n s) ring' (steps ring' n t) more
@@ -102,17 +107,20 @@ steps-longer (suc n) {ring} {s} {ring'} {t} {more} o o' l h =
     (gone-longer l (stepFound ring s) (steps ring n (stepOf ring s)) (steps ring' n (stepOf ring' t))
     (λ c m k e g.
     let e' : stepFound ring' t ≡ unit c m k = step-longer l settled ∙ e in
-    rw (stepped ring s c m k e, stepped ring' t c m k e') (steps-longer n o o' (executed-longer l o o' c m k e) (rw (stepped ring s c m k e) at g)))
+    rw (stepped ring s c m k e, stepped ring' t c m k e')
+    (steps-longer n o o' (executed-longer l o o' c m k e) (rw (stepped ring s c m k e) at g)))
     h)
 
 -- a run
 pub run-longer : (limit : ℕ) {ring : List ℕ} {s : State} {ring' : List ℕ} {t : State} {more : List ℕ} → Octets ring → Octets ring'
-    → Longer ring s ring' t more → NotWaiting (runOf ring limit s .stop) → SameRun ring (runOf ring limit s) ring' (runOf ring' limit t) more
+    → Longer ring s ring' t more → NotWaiting (runOf ring limit s .stop)
+    → SameRun ring (runOf ring limit s) ring' (runOf ring' limit t) more
 unfolding runOf
 run-longer limit {ring} {s} {ring'} {t} o o' l h =
     rw (l .gate-is) (gated-longer (gateOf s (length ring)) l (λ g. steps-longer (min limit runLimit) o o' l g) h)
   where
-    gated-longer : (r : ℕ) {ring : List ℕ} {s : State} {ring' : List ℕ} {t : State} {more : List ℕ} {e d : Ended} → Longer ring s ring' t more
-        → (NotWaiting (e .stop) → SameRun ring e ring' d more) → NotWaiting (gated r s e .stop) → SameRun ring (gated r s e) ring' (gated r t d) more
+    gated-longer : (r : ℕ) {ring : List ℕ} {s : State} {ring' : List ℕ} {t : State} {more : List ℕ} {e d : Ended}
+        → Longer ring s ring' t more → (NotWaiting (e .stop) → SameRun ring e ring' d more) → NotWaiting (gated r s e .stop)
+        → SameRun ring (gated r s e) ring' (gated r t d) more
     gated-longer zero l f h = f h
     gated-longer (suc r) l f h = record { units-are = refl; stop-is = refl; state-is = l }
