@@ -48,9 +48,10 @@ sub-take-vertices c = search needs
 take-vertices-requires : tie.Need-take-vertices-requires
 take-vertices-requires c κs =
     let p = c .before .before .before .before .before .before .before .before .before .before in
-    let z = c .before .before .before .before .before .size-of in
-    (omega (arith, c .before .before .before .before .before .before .before .if1 .left, p .pre .0),
-    (omega (arith, c .before .before .before .before .if2 .left), omega (arith, z .ensures .size-is, bytes-most (p .args .cp .now) (p .args .op % 8))))
+    let z = c .before .before .before .before .before .size-of in (
+      omega (arith, c .before .before .before .before .before .before .before .if1 .left, p .pre .0),
+      (omega (arith, c .before .before .before .before .if2 .left), omega (arith, z .ensures .size-is, bytes-most (p .args .cp .now) (p .args .op % 8))),
+    )
 
 add-t17 : tie.Need-add-t17
 add-t17 c =

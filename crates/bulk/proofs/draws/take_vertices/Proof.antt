@@ -30,7 +30,7 @@ add-end : tie.Need-add-end
 add-end c = search needs
 
 copy-last-requires : tie.Need-copy-last-requires
-copy-last-requires c κs = 
+copy-last-requires c κs =
     let w = c .before .before .before .whole in
     (omega (arith, one-fits (w .result) (c .before .before .before .before .before .before .args .size) (c .before .if1 .left)), omega (arith, w .ensures .inside))
 
@@ -41,7 +41,7 @@ same-length : tie.Need-same-length
 same-length c = search needs
 
 returns-2 : tie.Need-returns-2
-returns-2 c = 
+returns-2 c =
     let w = c .before .before .before .before .before .before .whole in
     let p = c .before .before .before .before .before .before .before .before .before .pre in
     vertices-some (w .result) (p .0) (p .1 .0) (c .before .before .before .before .if1 .left) (w .ensures) (c .before .before .before .before .before .draw-of .ensures) (c .before .before .copy-last .ensures)

@@ -12,7 +12,7 @@ use Rattle.bulk.proofs.loads.take_cp.Statement.{statement}
 use Rattle.bulk.proofs.loads.take_cp.Tie as tie
 
 abbrev Inv-loop : tie.InvT-loop
-Inv-loop bytes from cp₀ sizes₀ most at₀ units₀ cp sizes at units = 
+Inv-loop bytes from cp₀ sizes₀ most at₀ units₀ cp sizes at units =
     (at ≤ length bytes) × ((units ≤ most) × MovesCp bytes from cp₀ most units at cp sizes)
 
 abbrev μ-loop : tie.MeasureT-loop
@@ -70,7 +70,7 @@ execute-requires : tie.Need-execute-requires Inv-loop μ-loop
 execute-requires c κs = c .before .before .before .before .before .before .before .before .before .before .before .before .loop .inv .1 .1 .known
 
 returns-3 : tie.Need-returns-3 Inv-loop μ-loop
-returns-3 c = 
+returns-3 c =
     let e = c .before .execute .ensures .none (not-true _ (c .if3 .taken)) in
     rw (e .0, e .1) (c .before .before .before .before .before .before .before .before .before .before .before .before .before .before .loop .inv .1 .1)
 
@@ -84,7 +84,7 @@ loop-less : tie.Need-loop-less Inv-loop μ-loop
 loop-less c = search needs
 
 loop-again : tie.Need-loop-again Inv-loop μ-loop
-loop-again c = 
+loop-again c =
     let b = c .before .before .before .before .before .before .before .before .before .before in
     let l = b .before .before .before .before .loop in
     let w = c .before .before .before .before .before .word in

@@ -68,24 +68,24 @@ same-length : tie.Need-same-length
 same-length c = search needs
 
 returns-4 : tie.Need-returns-4
-returns-4 c = 
+returns-4 c =
     let p = c .before .before .before .before .before .before .before .before .before .before .pre in
     closed-any (c .closed4 .ensures) (moves-most 1 _ (p .1 .0) (c .before .before .before .take-xf .ensures .any _ _ _)) (p .1 .1)
 
 returns-5 : tie.Need-returns-5
-returns-5 c = 
+returns-5 c =
     let p = c .before .before .before .before .before .before .before .pre in
     closed-any (c .closed5 .ensures) (moves-most 1 _ (p .1 .0) (moves-byte (c .before .take-fixed .ensures) (c .before .before .match .keys5) .any _ _ _ _))
     (p .1 .1)
 
 returns-6 : tie.Need-returns-6
-returns-6 c = 
+returns-6 c =
     let p = c .before .before .before .before .before .before .before .pre in
     closed-any (c .closed6 .ensures) (moves-most 1 _ (p .1 .0) (moves-indexed (c .before .take-fixed2 .ensures) (c .before .before .match .keys6) .any _ _ _ _))
     (p .1 .1)
 
 returns-7 : tie.Need-returns-7
-returns-7 c = 
+returns-7 c =
     let p = c .before .before .before .before .before .before .before .pre in
     closed-any (c .closed7 .ensures) (moves-most 1 _ (p .1 .0) (moves-call (c .before .take-fixed3 .ensures) (c .before .before .match .keys7) .any _ _ _ _))
     (p .1 .1)
@@ -94,7 +94,7 @@ same-length-2 : tie.Need-same-length-2
 same-length-2 c = search needs
 
 returns-8 : tie.Need-returns-8
-returns-8 c = 
+returns-8 c =
     let d = c .before .before .take-draw .ensures in
     record { moves = d .any _ _; known = d .known }
 

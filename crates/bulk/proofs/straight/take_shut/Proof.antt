@@ -12,7 +12,7 @@ use Rattle.bulk.proofs.straight.take_shut.Statement.{statement}
 use Rattle.bulk.proofs.straight.take_shut.Tie as tie
 
 abbrev Inv-loop : tie.InvT-loop
-Inv-loop bytes from cp₀ bp₀ xf₀ buffer₀ limit sizes₀ at₀ units₀ cp bp xf buffer sizes at units = 
+Inv-loop bytes from cp₀ bp₀ xf₀ buffer₀ limit sizes₀ at₀ units₀ cp bp xf buffer sizes at units =
     (length xf ≡ length xf₀) × ((length buffer ≡ length buffer₀) × ((at ≤ length bytes) × ((units ≤ limit)
     × (Known cp sizes × Moves bytes from (shut cp₀ bp₀ xf₀ buffer₀) limit units at (shut cp bp xf buffer)))))
 
@@ -53,7 +53,7 @@ same-length-4 : tie.Need-same-length-4 Inv-loop μ-loop
 same-length-4 c = search needs
 
 returns-2 : tie.Need-returns-2 Inv-loop μ-loop
-returns-2 c = 
+returns-2 c =
     let l = c .before .before .before .before .before .before .before .before .before .before .before .before .before .before .before .loop .inv in
     moves-then (l .1 .1 .1 .1 .1) (c .before .before .before .before .before .before .before .take-class .ensures .moves) (omega arith)
 
@@ -64,7 +64,7 @@ same-length-6 : tie.Need-same-length-6 Inv-loop μ-loop
 same-length-6 c = search needs
 
 returns-3 : tie.Need-returns-3 Inv-loop μ-loop
-returns-3 c = 
+returns-3 c =
     let l = c .before .before .before .before .before .before .before .before .before .before .before .before .before .before .before .before .before .loop .inv in
     let m = c .before .before .before .before .before .before .before .before .before .take-class .ensures .moves in
     moves-then (l .1 .1 .1 .1 .1) (rw (c .before .before .enum-told .given .1) at m) (omega arith)
@@ -73,15 +73,17 @@ loop-less : tie.Need-loop-less Inv-loop μ-loop
 loop-less c = omega (arith, c .before .before .before .before .before .before .before .before .before .take-class .ensures .moves .within)
 
 loop-again : tie.Need-loop-again Inv-loop μ-loop
-loop-again c = 
+loop-again c =
     let l = c .before .before .before .before .before .before .before .before .before .before .before .before .before .before .before .before .before .loop .inv in
     let e = c .before .before .before .before .before .before .before .before .before .take-class .ensures in
     let m = e .moves in (
       search needs,
       (
         search needs,
-        (m .inside (l .1 .1 .0),
-        (omega (arith, m .within), (e .known, moves-then (l .1 .1 .1 .1 .1) (rw (c .before .before .enum-told .given .1) at m) (omega arith)))),
+        (
+          m .inside (l .1 .1 .0),
+          (omega (arith, m .within), (e .known, moves-then (l .1 .1 .1 .1 .1) (rw (c .before .before .enum-told .given .1) at m) (omega arith))),
+        ),
       ),
     )
 

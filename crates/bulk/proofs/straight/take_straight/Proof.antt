@@ -21,17 +21,17 @@ returns : tie.Need-returns
 returns c = moves-many (c .before .before .before .before .take-open .ensures .any _ _)
 
 sub-take-shut : tie.Need-sub-take-shut
-sub-take-shut c = 
+sub-take-shut c =
     let a = c .before .before .before .before .before .before .before .before .before .before .before .before .before .before .before .args in
     c .before .before .before .before .before .before .before .before .before .take-open .ensures .any (a .bp .now) (a .xf .now) .within
 
 take-shut-requires : tie.Need-take-shut-requires
-take-shut-requires c κs = 
+take-shut-requires c κs =
     let a = c .before .before .before .before .before .before .before .before .before .before .before .before .before .before .before .args in
     c .before .before .before .before .before .before .before .before .before .take-open .ensures .any (a .bp .now) (a .xf .now) .inside (omega arith)
 
 add-t21 : tie.Need-add-t21
-add-t21 c = 
+add-t21 c =
     let p = c .before .before .before .before .before .before .before .before .before .before .before .before .before .before .before .before .before .before .before .before .before .before in
     let o = c .before .before .before .before .before .before .before .before .before .before .before .before .before .before .before .before .take-open .ensures .any (p .args .bp .now) (p .args .xf .now) in
     omega (arith, p .fits .limit, c .before .before .before .before .before .before .take-shut .ensures .within, o .within)
@@ -43,7 +43,7 @@ same-length-3 : tie.Need-same-length-3
 same-length-3 c = search needs
 
 returns-2 : tie.Need-returns-2
-returns-2 c = 
+returns-2 c =
     let a = c .before .before .before .before .before .before .before .before .before .before .before .before .before .before .before .before .before .before .before .before .before .before .args in
     let o = c .before .before .before .before .before .before .before .before .before .before .before .before .before .before .before .before .take-open .ensures .any (a .bp .now) (a .xf .now) in
     moves-many (moves-then (rw (c .before .before .before .before .before .before .before .before .before .before .before .before .enum-told .given .1) at o) (c .before .before .before .before .before .before .take-shut .ensures) (omega (arith, o .within)))
