@@ -137,9 +137,9 @@ pub product-fits : (left size : ℕ) → left < 65536 → size ≤ 129 → left 
 product-fits left size h s = lt-of-le-of-lt (mul-le-mul-left left s) (omega arith)
 
 -- some vertices have the bytes of one
-pub one-fits : (n size : ℕ) → (n ≡ 0 → ⊥) → size ≤ n * size
-one-fits zero size z = absurd (z refl)
-one-fits (suc n) size z = let m : suc n * size ≡ n * size + size = suc-mul n size in omega arith
+pub one-fits : (n size : ℕ) → 1 ≤ n → size ≤ n * size
+one-fits zero size h = absurd (omega (arith, h))
+one-fits (suc n) size h = let m : suc n * size ≡ n * size + size = suc-mul n size in omega arith
 
 -- the part that ends at a place
 pub copied-last : (bytes buffer : List ℕ) {buffer' : List ℕ} (end n : ℕ) → n ≤ end → buffer' ≡ copied (take (end - (end - n)) (drop (end - n) bytes)) buffer

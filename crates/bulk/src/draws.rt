@@ -3,7 +3,7 @@
 use crate::Many;
 use command::Draw;
 ghost use mathlib.Core.Path.{_≡_};
-ghost use Prim.Native.Nat.{_-_, _<_, _≤_, min};
+ghost use Prim.Native.Nat.{_+_, _-_, _*_, _<_, _≤_, min};
 ghost use lib.ListN.{length, getD};
 ghost use Rattle.bulk.specs.Inner.{Known, Sized, Fits, copiedAt, MovesVertices, MovesOpen, MovesDraw};
 
@@ -28,11 +28,12 @@ fn size_of(cp: &[u32; 60], sizes: &mut [u8; 8], format: u8) -> u32
     size
 }
 
-// Copies the vertex that ends at a place.
-fn copy_last(bytes: &[u8], end: usize, size: usize, buffer: &mut [u8])
-    requires { ⌜ (size ≤ end) × (end ≤ length (now bytes)) ⌝ }
-    ensures { λ _. ⌜ now (buffer .exit) ≡ copiedAt (now (bytes .entry)) (end - size) size (now (buffer .entry)) ⌝ }
+// Copies the last of n vertices from a place on.
+fn copy_last(bytes: &[u8], from: usize, n: usize, size: usize, buffer: &mut [u8])
+    requires { ⌜ (1 ≤ n) × (from + n * size ≤ length (now bytes)) ⌝ }
+    ensures { λ _. ⌜ now (buffer .exit) ≡ copiedAt (now (bytes .entry)) (from + n * size - size) size (now (buffer .entry)) ⌝ }
 {
+    let end = from + n * size;
     let start = end - size;
     effect::copy_vertex(buffer, &bytes[start..end]);
 }
@@ -80,11 +81,10 @@ fn take_vertices(
             draw,
         };
     }
-    let end = from + n * size;
-    copy_last(bytes, end, size, buffer);
+    copy_last(bytes, from, n, size, buffer);
     Many {
         units: n as u32,
-        at: end,
+        at: from + n * size,
         draw,
     }
 }

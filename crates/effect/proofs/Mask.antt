@@ -1,4 +1,4 @@
--- The mask that is always stored is the one that is stored unless the load's own register was FE.
+-- The mask that is stored after a load is the one that the definition has: what a load of FE stored, or else FFFFFF.
 use mathlib.Core.Path.{_≡_, refl}
 use mathlib.Core.Bool.{Bool, true, false, cond}
 use mathlib.Core.List.{List}

@@ -4,13 +4,19 @@ use command::Draw;
 ghost use mathlib.Core.Path.{_≡_};
 ghost use mathlib.Core.Bool.{cond};
 ghost use Prim.Native.Nat.{_+_, _*_, _≤_};
-ghost use lib.Dec.{eqb};
 ghost use lib.ListN.{length};
 ghost use Rattle.octets.specs.BigEndian.{bigEndian};
 ghost use Rattle.command.specs.Command.{numbersOf};
 ghost use Rattle.effect.specs.Effect.{keptOf, loadedCp, loadedBp, loadedXf, storedXf, copied};
-ghost use Rattle.effect.specs.Effect.{drawAfter, openedBy, countedDown, masked, maskPlace, Applied};
+ghost use Rattle.effect.specs.Effect.{drawAfter, openedBy, countedDown, masked, Applied};
 ghost use Rattle.effect.specs.Inner.{fourStored};
+
+// One number or the other: chosen, not branched on.
+fn chosen(test: bool, yes: u32, no: u32) -> u32
+    ensures { λ r. ⌜ r ≡ cond test yes no ⌝ }
+{
+    if test { yes } else { no }
+}
 
 // What a CP register keeps of a number.
 fn kept(address: u8, number: u32) -> u32
@@ -19,10 +25,7 @@ fn kept(address: u8, number: u32) -> u32
     if address < 0xA0 {
         return number;
     }
-    if address < 0xB0 {
-        return number % 0x400_0000;
-    }
-    number % 256
+    chosen(address < 0xB0, number % 0x400_0000, number % 256)
 }
 
 // A CP load.
@@ -44,13 +47,6 @@ pub fn replace_bits(old: u32, mask: u32, number: u32) -> u32
     (old & (0xFF_FFFF ^ mask)) | (number & mask)
 }
 
-// The mask after a BP load that stored a number: chosen, not branched on.
-fn next_mask(register: u8, new: u32) -> u32
-    ensures { λ r. ⌜ r ≡ cond (eqb register maskPlace) new 0xFFFFFF ⌝ }
-{
-    if register == 0xFE { new } else { 0xFF_FFFF }
-}
-
 // A BP load, by the mask in register FE, which it then sets to FFFFFF unless it was a load of FE.
 pub fn load_bp(bp: &mut [u32; 256], register: u8, number: u32)
     ensures { λ _. ⌜ now (bp .exit) ≡ loadedBp (now (bp .entry)) register number ⌝ }
@@ -60,7 +56,7 @@ pub fn load_bp(bp: &mut [u32; 256], register: u8, number: u32)
     let old = bp[at];
     let new = replace_bits(old, mask, number);
     bp[at] = new;
-    bp[0xFE] = next_mask(register, new);
+    bp[0xFE] = chosen(register == 0xFE, new, 0xFF_FFFF);
 }
 
 // The word at a place of the bytes.

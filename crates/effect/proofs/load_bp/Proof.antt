@@ -22,14 +22,14 @@ mul-bp c = search needs
 element-write-bp : tie.Need-element-write-bp
 element-write-bp c = search needs
 
-next-mask-requires : tie.Need-next-mask-requires
-next-mask-requires c κs = search needs
+chosen-requires : tie.Need-chosen-requires
+chosen-requires c κs = search needs
 
 element-write-bp-2 : tie.Need-element-write-bp-2
 element-write-bp-2 c = search needs
 
 returns : tie.Need-returns
-returns c = mask-stored _ _ _ _ _ (c .before .replace-bits .ensures) (c .next-mask .ensures)
+returns c = mask-stored _ _ _ _ _ (c .before .replace-bits .ensures) (c .chosen .ensures)
 
 pub load-bp-spec : {M : Type 1} → statement M
 load-bp-spec =
@@ -41,6 +41,6 @@ load-bp-spec =
     replace-bits-requires
     mul-bp
     element-write-bp
-    next-mask-requires
+    chosen-requires
     element-write-bp-2
     returns)

@@ -1,6 +1,6 @@
 -- `bulk::take_vertices` meets its contract: as many as are whole, left and allowed; the last of them is copied.
 use native.Mathlib.Omega.{arith}
-use Rattle.bulk.proofs.Drawn.{one-fits, vertices-none, vertices-some}
+use Rattle.bulk.proofs.Drawn.{vertices-none, vertices-some}
 use borrow.Author.Needs.{needs}
 use Rattle.bulk.proofs.draws.take_vertices.Statement.{statement}
 use Rattle.bulk.proofs.draws.take_vertices.Tie as tie
@@ -23,19 +23,17 @@ draw-of-requires c κs = search needs
 returns : tie.Need-returns
 returns c = vertices-none (c .if1 .taken) (c .before .draw-of .ensures)
 
-mul-end : tie.Need-mul-end
-mul-end c = search needs
-
-add-end : tie.Need-add-end
-add-end c = search needs
-
 copy-last-requires : tie.Need-copy-last-requires
-copy-last-requires c κs =
-    let w = c .before .before .before .whole in
-    (omega (arith, one-fits (w .result) (c .before .before .before .before .before .before .args .size) (c .before .if1 .left)), omega (arith, w .ensures .inside))
+copy-last-requires c κs = search needs
 
-cast-t22 : tie.Need-cast-t22
-cast-t22 c = search needs
+cast-t21 : tie.Need-cast-t21
+cast-t21 c = search needs
+
+mul-t11 : tie.Need-mul-t11
+mul-t11 c = search needs
+
+add-t12 : tie.Need-add-t12
+add-t12 c = search needs
 
 same-length : tie.Need-same-length
 same-length c = search needs
@@ -56,9 +54,9 @@ take-vertices-spec =
     sub-draw-of
     draw-of-requires
     returns
-    mul-end
-    add-end
     copy-last-requires
-    cast-t22
+    cast-t21
+    mul-t11
+    add-t12
     same-length
     returns-2)
