@@ -1,16 +1,18 @@
 -- Units that change nothing: no-operations and what is reported only.
 use mathlib.Core.Path.{_≡_, refl, sym, ap, _∙_}
 use mathlib.Core.Logic.{_⊎_, inl, inr, ⊎-elim}
+use mathlib.Core.Bool.{Bool, true, false, cond}
 use mathlib.Core.List.{List}
 use Prim.Native.Nat.{ℕ, zero, suc, _+_, _-_, _/_, _%_, _<_, _≤_}
 use native.Mathlib.Nat.{add-zero}
 use native.Mathlib.Numerals.{add-one}
 use native.Mathlib.Omega.{arith}
 use lib.Bits.{bitOr, bitAnd, or-add-and, and-le-l, and-comm}
+use lib.Dec.{leb}
 use lib.ListN.{length, getD, take, drop, length-drop}
-use borrow.Author.Tests.{ne-eqb, le-ltb}
+use borrow.Author.Tests.{ne-eqb, le-ltb, leb-true}
 use borrow.Author.Count.{below-more}
-use Rattle.laws.proofs.Cases.{order}
+use Rattle.laws.proofs.Cases.{order, and-left, and-right}
 use Rattle.command.specs.declared.Draw.the-variants.{Closed}
 use Rattle.command.specs.Command.{unit, noOperation, invalidateCache, metrics, loadIndexed, callList}
 use Rattle.command.specs.Look.{whole, byOpcode, lookOf, lookIndexed, lookCall, indexedArray, memoryOf}
@@ -20,7 +22,8 @@ use Rattle.octets.specs.BigEndian.{bigEndian}
 use Rattle.walk.specs.Flat.{Core, flatFound, coreAfter}
 use Rattle.walk.specs.Moves.{Moves, MovesOn, shut}
 use Rattle.walk.proofs.Walks.{first-at, there, One, moves-none, moves-next, moved-one}
-use Rattle.plain.specs.Inner.{Fixed, Quiet, Zeros}
+use Rattle.plain.specs.Fixed.{thereAt, Fixed}
+use Rattle.plain.specs.Inner.{Quiet, Zeros}
 
 -- ---- bits of bytes that are all zero
 pub or-zero : (a b : ℕ) → bitOr a b ≡ 0 → (a ≡ 0) × (b ≡ 0)
@@ -110,11 +113,21 @@ module _ (bytes : List ℕ) (at : ℕ) (cp bp xf buffer : List ℕ) where
       (sym (looks h (omega arith) e) ∙ sym (at-indexed b (length b) cp op k) ∙ rw (le-ltb (length b) 5 (there bytes at 5 h))) refl
 
 -- a unit of so many bytes, or none
+there-within : (bytes : List ℕ) (at n : ℕ) → thereAt bytes at n ≡ true → (at ≤ length bytes) × (n ≤ length bytes - at)
+unfolding thereAt
+there-within bytes at n e =
+    let a : Bool = leb at (length bytes) in
+    let b : Bool = leb n (length bytes - at) in
+    (leb-true at (length bytes) (and-left a b e), leb-true n (length bytes - at) (and-right a b e))
+
+by-there : (bytes : List ℕ) (at n : ℕ) (s : Core) (t : Bool) → thereAt bytes at n ≡ t → (n ≤ length bytes - at → One bytes at s n s)
+    → Moves bytes at s 1 (cond t 1 0) (cond t (at + n) at) s
+by-there bytes at n s true e g = let w = there-within bytes at n e in moved-one (omega (arith, w .0, w .1)) (g (w .1))
+by-there bytes at n s false e g = moves-none
+
 fixed-moves : {bytes : List ℕ} {at n units to : ℕ} {s : Core} → Fixed bytes at n units to → (n ≤ length bytes - at → One bytes at s n s)
     → Moves bytes at s 1 units to s
-fixed-moves {bytes} {at} {n} f g =
-    ⊎-elim (λ z. rw (z .0, z .1) moves-none)
-    (λ o. rw (o .0, o .1 .0) (moved-one (omega (arith, o .1 .1 .0, o .1 .1 .1)) (g (o .1 .1 .1)))) (f .is)
+fixed-moves {bytes} {at} {n} {s = s} f g = rw (f .units-are, f .to-is) (by-there bytes at n s (thereAt bytes at n) refl g)
 
 module _ {bytes : List ℕ} {at units to : ℕ} where
   pub moves-byte : Fixed bytes at 1 units to → (getD bytes at 0 ≡ 0x44) ⊎ (getD bytes at 0 ≡ 0x48) → MovesOn bytes at 1 units to

@@ -1,8 +1,7 @@
 -- What inner functions promise to their callers: nobody needs to read this to believe the crate.
 use mathlib.Core.Path.{_≡_}
-use mathlib.Core.Logic.{_⊎_}
 use mathlib.Core.List.{List}
-use Prim.Native.Nat.{ℕ, _+_, _-_, _*_, _<_, _≤_}
+use Prim.Native.Nat.{ℕ, _+_, _*_, _<_, _≤_}
 use lib.ListN.{length, getD, drop}
 use Rattle.command.specs.declared.Draw.the-variants.{Closed}
 use Rattle.command.specs.Command.{unit, loadXf}
@@ -17,10 +16,6 @@ pub record Zeros (bytes : List ℕ) (from end to : ℕ) : Type 0 where
 -- where these bits of n bytes are none, each of the bytes is zero
 pub record Quiet (bytes : List ℕ) (at n bits : ℕ) : Type 0 where
   pub zero : bits ≡ 0 → (k : ℕ) → k < n → getD bytes (at + k) 0 ≡ 0
-
--- n bytes are there and are passed, or none is
-pub record Fixed (bytes : List ℕ) (at n units to : ℕ) : Type 0 where
-  pub is : ((units ≡ 0) × (to ≡ at)) ⊎ ((units ≡ 1) × ((to ≡ at + n) × ((at ≤ length bytes) × (n ≤ length bytes - at))))
 
 -- the head of an XF load of so many words at a place
 pub record HeadOf (bytes : List ℕ) (at words address : ℕ) : Type 0 where

@@ -5,7 +5,7 @@ mod zeros;
 pub use loads::take_bp;
 pub use loads::take_xf;
 pub use zeros::take_zeros;
-ghost use Rattle.plain.specs.Inner.{Fixed};
+ghost use Rattle.plain.specs.Fixed.{Fixed};
 
 // How many units were taken, and the place after them; none where there is none that is whole.
 pub struct Step {

@@ -1,4 +1,5 @@
--- What the functions that take units promise to the one that calls them all: nobody needs to read this to believe a crate.
+-- What the functions of one class of units promise to the one that calls them all, which promises `TakesMany`: to believe that, this need not
+-- be read.
 use mathlib.Core.List.{List}
 use Prim.Native.Nat.{ℕ, _≤_}
 use lib.ListN.{length}
