@@ -603,19 +603,25 @@ void hand_fresh(u32 *s) {
     s[BP + BP_MASK] = 0xFFFFFF;
 }
 
+/* A feed that reaches the ring's end, in two stretches. It stands apart, so that the other
+ * one keeps few registers. */
+static __attribute__((noinline)) u32 feed_around(u32 *restrict s, u8 *restrict ring,
+                                                 const u8 *restrict bytes, size_t n,
+                                                 size_t at, size_t straight) {
+    s[WRITE] = s[START] + (u32)(n - straight);
+    memcpy(ring + at, bytes, straight);
+    memcpy(ring, bytes + straight, n - straight);
+    return 0;
+}
+
 u32 hand_feed(u32 *restrict s, u8 *restrict ring, size_t ring_len, const u8 *restrict bytes,
               size_t n) {
     if (unlikely(!window_ok(s, ring_len))) return 1;
     if (unlikely(n > ring_len - 1 - count_of(s))) return 11;
     size_t at = s[WRITE] - s[START], straight = ring_len - at;
-    if (likely(n < straight)) {
-        memcpy(ring + at, bytes, n);
-        s[WRITE] += (u32)n;
-    } else {
-        memcpy(ring + at, bytes, straight);
-        memcpy(ring, bytes + straight, n - straight);
-        s[WRITE] = s[START] + (u32)(n - straight);
-    }
+    if (unlikely(n >= straight)) return feed_around(s, ring, bytes, n, at, straight);
+    s[WRITE] += (u32)n;
+    memcpy(ring + at, bytes, n);
     return 0;
 }
 
