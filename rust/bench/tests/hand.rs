@@ -4,11 +4,13 @@
 
 mod common;
 
+use common::stream::{format, Stream};
 use common::Hand;
 use compare::duo::Duo;
 use compare::random::Random;
 use compare::scenarios;
 use compare::side::Proved;
+use compare::world::{word, Lent};
 use model::words::{FormatWords, ValueWords};
 use model::ATTRIBUTES;
 
@@ -26,29 +28,48 @@ fn compared(seed: u64, calls: u64) -> u64 {
     duo.tally.calls
 }
 
-/// A format by chance, for the most part a good one.
-fn format(random: &mut Random) -> FormatWords {
-    let mut words: FormatWords = random.array();
-    if random.below(8) != 0 {
-        words[0] |= 0x200;
-    }
-    if random.below(4) != 0 {
-        // No format above 3, and now and then f32.
-        words[2] &= !0x0111_1008;
-        words[3] &= !0x4020_1008;
-        words[4] &= !0x0402_0100;
-        if random.below(2) == 0 {
-            words[2] = words[2] & !0x01C0_1C0E | 0x0100_1008;
-            words[3] = words[3] & !0x7038_1C0E | 0x4020_1008;
+/// Draws and loads of formats, many of both in a run, in a ring that often wraps.
+fn drawn(seed: u64, times: u32) {
+    let mut random = Random::new(seed);
+    let mut duo = Duo::new(Box::new(Proved), Box::new(Hand));
+    duo.scenario("draws and formats");
+    for _ in 0..times {
+        let size = random.pick(&[256, 512, 1024, 4096, 65_536]);
+        fresh(&mut duo, size, &mut random);
+        let mut stream = Stream::new();
+        while stream.bytes.len() < 6 * size.min(4096) as usize {
+            stream.extend(&mut random);
+        }
+        let mut rest = &stream.bytes[..];
+        while !rest.is_empty() {
+            let room = duo.world().room();
+            let most = random.pick(&[room, room, 40.min(room)]);
+            let (now, later) = rest.split_at(rest.len().min(random.between(1, most) as usize));
+            assert_eq!(duo.feed(now), 0);
+            let few = random.below(20);
+            duo.run(random.pick(&[65_535, 65_535, 100_000, few]));
+            duo.run(65_535);
+            rest = later;
+        }
+        if let Some(fault) = duo.fault() {
+            panic!("seed {seed}, {fault}");
         }
     }
-    if random.below(3) == 0 {
-        words[1] = 0;
-    }
-    if random.below(3) == 0 {
-        words[0] &= !0x1FF;
-    }
-    words
+}
+
+/// A fresh state with an empty ring of so many bytes, the pointers anywhere in it.
+fn fresh(duo: &mut Duo, size: u32, random: &mut Random) {
+    duo.fresh();
+    duo.hold(Lent {
+        ring: size as usize,
+        xf: 4184,
+        vertex: 129,
+    });
+    let pointer = random.below(size);
+    duo.poke(word::END, size);
+    duo.poke(word::WRITE, pointer);
+    duo.poke(word::READ, pointer);
+    duo.poke(word::CONTROL, 1);
 }
 
 /// A vertex of the format's length, or now and then of another; bytes of NaNs among it.
@@ -93,6 +114,11 @@ fn calls_are_the_same() {
 }
 
 #[test]
+fn draws_are_the_same() {
+    drawn(1, 300);
+}
+
+#[test]
 fn whole_vertices_are_the_same() {
     whole_vertices(1, 200_000);
 }
@@ -102,6 +128,7 @@ fn whole_vertices_are_the_same() {
 #[ignore = "takes a minute"]
 fn many_calls_are_the_same() {
     let calls: u64 = (2..=6).map(|seed| compared(seed, 4_000_000)).sum();
+    drawn(2, 10_000);
     whole_vertices(2, 2_000_000);
-    println!("{calls} calls and 2,000,000 whole vertices, no difference");
+    println!("{calls} calls, 10,000 streams of draws, 2,000,000 whole vertices: no difference");
 }

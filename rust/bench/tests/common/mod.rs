@@ -1,5 +1,7 @@
 //! The hand-tuned C as a side of `compare`.
 
+pub mod stream;
+
 use compare::side::{Proved, Side};
 use model::words::{CommandWords, FormatWords, ReportWords, StateWords, UnitWords, ValueWords};
 use model::ATTRIBUTES;
