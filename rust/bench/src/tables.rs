@@ -15,7 +15,7 @@ pub fn print_preface(plan: &Plan) {
     println!();
     match hand::COMPILER {
         Some(compiler) => println!(
-            "C is hand-tuned, `rust/bench/hand/hand.c`, compiled by `{compiler}` for every x86-64 at `-O3`."
+            "C is hand-tuned (`rust/bench/hand`), compiled by `{compiler}` with `-O3 -march=x86-64`."
         ),
         None => println!(
             "No C compiler for x86-64 was found when this was built: the column of hand-tuned C is left out."
