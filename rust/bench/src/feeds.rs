@@ -144,19 +144,11 @@ pub fn feeds(sizes: &[usize]) -> Result<Vec<Feeds>, String> {
     loads.map(compared).collect()
 }
 
-fn compared(load: Load) -> Result<Feeds, String> {
-    let (bytes, feeds) = (load.bytes, load.feeds);
-    let mut proved = ProvedFeeds {
-        load: load.clone(),
-        machine: empty(),
-    };
-    let mut by_bytes = ByteAfterByte {
-        load: load.clone(),
-        lent: Lent::new(),
-        write: PLACE,
-        count: 0,
-    };
-    for feed in 1..=feeds {
+/// Feeds all of the load to both, and compares what is left.
+fn feed_both(proved: &mut ProvedFeeds, by_bytes: &mut ByteAfterByte) -> Result<(), String> {
+    let load = proved.load.clone();
+    let bytes = load.bytes;
+    for feed in 1..=load.feeds {
         let answer = proved.machine.feed(load.bytes());
         if answer != 0 {
             return Err(format!("feed {feed} of {bytes} bytes: refusal {answer}"));
@@ -175,6 +167,22 @@ fn compared(load: Load) -> Result<Feeds, String> {
     if proved.machine.lent().ring != by_bytes.lent.ring {
         return Err(format!("the rings after feeds of {bytes} bytes differ"));
     }
+    Ok(())
+}
+
+fn compared(load: Load) -> Result<Feeds, String> {
+    let (bytes, feeds) = (load.bytes, load.feeds);
+    let mut proved = ProvedFeeds {
+        load: load.clone(),
+        machine: empty(),
+    };
+    let mut by_bytes = ByteAfterByte {
+        load: load.clone(),
+        lent: Lent::new(),
+        write: PLACE,
+        count: 0,
+    };
+    feed_both(&mut proved, &mut by_bytes)?;
     let copies = Copies {
         load,
         out: Box::new(Straight([0xCC; 2 * RING])),
