@@ -183,8 +183,8 @@ INLINE int draw_wrong(const u32 *s) {
 
 /* The first of 1 to 5 that applies, or 0. */
 INLINE u32 gate(const u32 *s, size_t ring_len, size_t xf_len, size_t vertex_len) {
-    if (unlikely(!window_ok(s, ring_len) || s[CONTROL] > 0x3F || draw_wrong(s) || registers_wide(s)))
-        return 1;
+    if (unlikely(!window_ok(s, ring_len) || s[CONTROL] > 0x3F)) return 1;
+    if (unlikely(draw_wrong(s) || registers_wide(s))) return 1;
     if (unlikely(xf_len != XF_WORDS)) return 2;
     if (unlikely(vertex_len < LONGEST)) return 3;
     if (unlikely(!(s[CONTROL] & 0x01))) return 4;
@@ -568,13 +568,12 @@ INLINE u32 run_all(Run *r) {
     return answer;
 }
 
-u32 hand_run(u32 *restrict s, const u8 *restrict ring, size_t ring_len, u32 *restrict xf,
-             size_t xf_len, u8 *restrict vertex, size_t vertex_len, u32 limit,
-             u32 *restrict report) {
-    u32 answer = gate(s, ring_len, xf_len, vertex_len);
-    if (unlikely(answer)) { report[0] = 0; report[1] = 0; return answer; }
-    if (limit == 0) { report[0] = 0; report[1] = 0; return 0; }
-    if (limit > MOST_UNITS) limit = MOST_UNITS;
+/* A run that may do units. It stands apart from the tests, so that both have the registers
+ * they need. */
+static __attribute__((noinline)) u32 run_pending(u32 *restrict s, const u8 *restrict ring,
+                                                 size_t ring_len, u32 *restrict xf,
+                                                 u8 *restrict vertex, u32 limit,
+                                                 u32 *restrict report) {
     size_t at = s[READ] - s[START], have = count_of(s), straight = ring_len - at;
     if (straight > have) straight = have;
     Run r = {
@@ -582,7 +581,7 @@ u32 hand_run(u32 *restrict s, const u8 *restrict ring, size_t ring_len, u32 *res
         .p = ring + at, .end = ring + at + straight, .wrapped = have - straight,
         .left = limit, .last = ring,
     };
-    answer = run_all(&r);
+    u32 answer = run_all(&r);
     copy_last(&r);
     u32 units = limit - (u32)r.left;
     if (units) {
@@ -593,6 +592,19 @@ u32 hand_run(u32 *restrict s, const u8 *restrict ring, size_t ring_len, u32 *res
     report[0] = units;
     report[1] = r.lacking;
     return answer;
+}
+
+u32 hand_run(u32 *restrict s, const u8 *restrict ring, size_t ring_len, u32 *restrict xf,
+             size_t xf_len, u8 *restrict vertex, size_t vertex_len, u32 limit,
+             u32 *restrict report) {
+    u32 answer = gate(s, ring_len, xf_len, vertex_len);
+    if (unlikely(answer || limit == 0)) {
+        report[0] = 0;
+        report[1] = 0;
+        return answer;
+    }
+    if (limit > MOST_UNITS) limit = MOST_UNITS;
+    return run_pending(s, ring, ring_len, xf, vertex, limit, report);
 }
 
 /* ---- Feeds and registers ---- */

@@ -31,7 +31,8 @@ INLINE u32 vertex_size(u32 vcd_0, u32 vcd_1, u32 vat_0, u32 vat_1, u32 vat_2) {
     u32 n = position_size(vcd_0, vat_0);
     if (vcd_0 & 0x1FF) n += bits_of_nine(vcd_0);
     if (vcd_0 & HAS_NORMAL_OR_COLOUR)
-        n += normal_size(vcd_0, vat_0) + colour_size(vcd_0, vat_0, 0) + colour_size(vcd_0, vat_0, 1);
+        n += normal_size(vcd_0, vat_0) + colour_size(vcd_0, vat_0, 0)
+           + colour_size(vcd_0, vat_0, 1);
     if (vcd_1 & 0xFFFF) {
         n += texture_size(vcd_1, vat_0 >> 21, 0);
         if (vcd_1 & HAS_TEXTURES_1_TO_7)

@@ -11,7 +11,8 @@
 #define INDEX(bytes) \
     bytes, bytes, bytes, bytes, bytes, bytes, bytes, bytes, bytes, bytes, NO_FORMAT
 #define INDEX_OR_THREE(bytes) \
-    bytes, 3 * bytes, bytes, 3 * bytes, bytes, 3 * bytes, bytes, 3 * bytes, bytes, 3 * bytes, NO_FORMAT
+    bytes, 3 * bytes, bytes, 3 * bytes, bytes, 3 * bytes, bytes, 3 * bytes, \
+    bytes, 3 * bytes, NO_FORMAT
 
 /* Two components or three. */
 static const uint16_t POSITION_SIZES[64] = {

@@ -80,7 +80,9 @@ u32 hand_lay_out(const u32 *restrict format, u8 *restrict sizes, u8 *restrict of
 /* ---- Attributes ---- */
 
 /* The kinds of values. */
-enum { ABSENT, MATRIX, ONE_INDEX, THREE_INDICES, COLOUR, POSITION, TEXTURE, NORMAL, NORMAL_OF_NINE };
+enum {
+    ABSENT, MATRIX, ONE_INDEX, THREE_INDICES, COLOUR, POSITION, TEXTURE, NORMAL, NORMAL_OF_NINE
+};
 enum { F32 = 4 };
 
 /* Ten words: a kind and three values, the others 0. */
@@ -124,7 +126,8 @@ INLINE __m128i lanes32(const u8 *p, u32 n) {
 INLINE __m128i singles(__m128i bits) {
     __m128i size = _mm_and_si128(bits, _mm_set1_epi32(0x7FFFFFFF));
     __m128i nan = _mm_cmpgt_epi32(size, _mm_set1_epi32(0x7F800000));
-    return _mm_or_si128(_mm_andnot_si128(nan, bits), _mm_and_si128(nan, _mm_set1_epi32(0x7FC00000)));
+    __m128i quiet = _mm_and_si128(nan, _mm_set1_epi32(0x7FC00000));
+    return _mm_or_si128(_mm_andnot_si128(nan, bits), quiet);
 }
 
 /* Whole numbers divided by 2^shift, which is exact. */
@@ -165,8 +168,9 @@ INLINE void tell_index(u32 *values, u32 mode, const u8 *p) {
 
 INLINE void position(const u32 *format, const u8 *p, u32 *values) {
     u32 mode = format[0] >> 9 & 3, vat_0 = format[2], f = vat_0 >> 1 & 7;
+    u32 shift = shift_of(vat_0, f, vat_0 >> 4 & 31);
     if (mode > 1) tell_index(values, mode, p);
-    else tell(values, POSITION, components(p, 2 + (vat_0 & 1), f, shift_of(vat_0, f, vat_0 >> 4 & 31)));
+    else tell(values, POSITION, components(p, 2 + (vat_0 & 1), f, shift));
 }
 
 /* Nine components, three at a time. */
@@ -187,8 +191,10 @@ INLINE void normal(const u32 *format, const u8 *p, u32 *values) {
     else if (mode == 1) tell(values, NORMAL, components(p, 3, f, SHIFTS[f]));
     else if (!(nine & vat_0 >> 31)) tell_index(values, mode, p);
     else if (mode == 2) tell(values, THREE_INDICES, _mm_set_epi32(0, p[2], p[1], p[0]));
-    else
-        tell(values, THREE_INDICES, _mm_set_epi32(0, (int)number16(p + 4), (int)number16(p + 2), (int)number16(p)));
+    else {
+        int first = (int)number16(p), second = (int)number16(p + 2), third = (int)number16(p + 4);
+        tell(values, THREE_INDICES, _mm_set_epi32(0, third, second, first));
+    }
 }
 
 /* A colour of so many bytes, as it stands. */
@@ -243,7 +249,8 @@ u32 hand_decode(const u32 *restrict format, u32 k, const u8 *restrict vertex, si
  * is quicker than to keep them. */
 u32 hand_decode_all(const u32 *restrict format, const u8 *restrict vertex, size_t vertex_len,
                     u32 *restrict values) {
-    u32 vcd_0 = format[0], vcd_1 = format[1], vat_0 = format[2], vat_1 = format[3], vat_2 = format[4];
+    u32 vcd_0 = format[0], vcd_1 = format[1];
+    u32 vat_0 = format[2], vat_1 = format[3], vat_2 = format[4];
     if (unlikely(!(vcd_0 & HAS_POSITION))) return 9;
     u32 size = vertex_size(vcd_0, vcd_1, vat_0, vat_1, vat_2);
     if (unlikely(size >= BAD)) return 10;
@@ -267,7 +274,8 @@ u32 hand_decode_all(const u32 *restrict format, const u8 *restrict vertex, size_
         p += bytes;
     }
     const u32 bits[8] = {
-        vat_0 >> 21, vat_1, vat_1 >> 9, vat_1 >> 18, vat_1 >> 27, vat_2 >> 5, vat_2 >> 14, vat_2 >> 23,
+        vat_0 >> 21, vat_1,       vat_1 >> 9,  vat_1 >> 18,
+        vat_1 >> 27, vat_2 >> 5,  vat_2 >> 14, vat_2 >> 23,
     };
     for (int i = 0; i < 8; i++, values += 10) {
         texture(vcd_1 >> 2 * i & 3, bits[i], i == 4 ? vat_2 : bits[i] >> 4, vat_0, p, values);
