@@ -162,10 +162,10 @@ fn decode_at(descriptor: Descriptor, k: usize, vertex: &[u8], at: u8) -> Attribu
 fn locate(descriptor: Descriptor, k: usize, vertex: &[u8]) -> Place
     ensures { λ r. ⌜ located r ≡ locationOf descriptor k (now (vertex .entry)) ⌝ }
 {
-    let laid = layout::lay_out(descriptor);
-    let answer = laid.answer;
-    let length = laid.length;
-    let offsets = laid.offsets;
+    let spot = layout::find(descriptor, k);
+    let answer = spot.answer;
+    let length = spot.length;
+    let offset = spot.offset;
     match answer {
         LayoutAnswer::Refused(reason) => Place::Refused(reason),
         LayoutAnswer::Accepted => {
@@ -175,7 +175,7 @@ fn locate(descriptor: Descriptor, k: usize, vertex: &[u8]) -> Place
             if vertex.len() != length as usize {
                 return Place::Refused(Reason::NotOfLayout);
             }
-            Place::At(offsets[k])
+            Place::At(offset as u8)
         }
     }
 }
