@@ -1,5 +1,5 @@
 -- The cursor's bytes: those of a straight stretch lie side by side, and those of a ready fifo are its queue.
-use Prim.Native.Nat.{ℕ, _+_, _-_, _%_, _≤_, _<_}
+use Prim.Native.Nat.{ℕ, _+_, _-_, _%_, _≤_, _<_, min}
 use mathlib.Core.Path.{_≡_, refl, sym, ap, ap₂, _∙_}
 use mathlib.Core.Logic.{⊎-elim}
 use mathlib.Core.Bool.{Bool, true, false, cond, _&&_}
@@ -7,13 +7,13 @@ use mathlib.Core.List.{List, _++_}
 use native.Mathlib.Nat.{add-sub-cancel-left, zero-add, min-eq-left}
 use native.Mathlib.Omega.{arith}
 use lib.Dec.{leb, ltb}
-use lib.ListN.{length, getD, take, drop, length-drop}
+use lib.ListN.{length, getD, take, drop, length-drop, replicate, length-replicate, getD-replicate}
 use lib.Seq.{ext-getD, length-take-le, getD-take, getD-drop, take-at, drop-at, drop-drop}
 use borrow.Author.Tests.{leb-true, ltb-true, ltb-false, lt-ltb, le-ltb}
 use Rattle.laws.specs.Values.{upTo}
 use Rattle.laws.proofs.Cases.{and-left, and-right}
 use Rattle.laws.proofs.Remainder.{mod-two}
-use Rattle.laws.proofs.Filled.{length-upTo, getD-upTo, upTo-add}
+use Rattle.laws.proofs.Filled.{length-upTo, getD-upTo, upTo-add, firsts}
 use Rattle.laws.proofs.Front.{upTo-ext}
 use Rattle.fifo.specs.declared.Window.{Window}
 use Rattle.fifo.specs.declared.Fifo.{Fifo}
@@ -108,10 +108,7 @@ round-bytes : (c : Cursor) (ring : List ℕ) (n : ℕ) → Round c (length ring)
     → take (n - (c .size - c .at)) ring ≡ upTo (λ k. byteOf c ring (c .size - c .at + k)) (n - (c .size - c .at))
 round-bytes c ring n s =
     let m : ℕ = n - (c .size - c .at) in
-    let f : ℕ → ℕ = λ k. byteOf c ring (c .size - c .at + k) in
-    let l : length (take m ring) ≡ m = length-take-le m ring (s .rest) in
-    ext-getD 0 (take m ring) (upTo f m) (l ∙ sym (length-upTo f m))
-    (λ k b. let b' : k < m = omega arith in getD-take m ring k 0 b' ∙ sym (getD-upTo f m k b' ∙ round-byte c ring n s k b'))
+    firsts m ring (s .rest) ∙ upTo-ext _ _ m (λ k h. sym (round-byte c ring n s k h))
 
 -- storing a list behind another at the front
 behind-put : (out a b : List ℕ) (n : ℕ) → length a ≡ n → put (put out 0 a) n b ≡ (a ++ b) ++ drop (n + length b) out
@@ -140,6 +137,30 @@ round-put c ring out n s e =
     let l : first + length (upTo g m) ≡ n = ap (λ (x : ℕ). first + x) (length-upTo g m) ∙ z in
     rw (e, a, b)
     (behind-put out (upTo f first) (upTo g m) first (length-upTo f first) ∙ ap₂ (λ (x : List ℕ) (k : ℕ). x ++ drop k out) u l)
+
+-- ---- past the last byte
+
+past-byte : (c : Cursor) (ring : List ℕ) (k : ℕ) → c .left ≤ k → byteOf c ring k ≡ 0
+unfolding byteOf
+past-byte c ring k h = rw (le-ltb k (c .left) h)
+
+-- as many bytes as there are, and zeros, are n bytes
+pub front-zeros : (c : Cursor) (ring : List ℕ) (n : ℕ)
+    → upTo (byteOf c ring) (min (c .left) n) ++ drop (min (c .left) n) (replicate n 0) ≡ upTo (byteOf c ring) n
+front-zeros c ring n =
+    let f : ℕ → ℕ = byteOf c ring in
+    let m : ℕ = min (c .left) n in
+    let z : List ℕ = drop m (replicate n 0) in
+    let g : ℕ → ℕ = λ k. f (m + k) in
+    let e : m + (n - m) ≡ n = omega arith in
+    let l : length z ≡ n - m = length-drop m (replicate n 0) ∙ ap (λ (x : ℕ). x - m) (length-replicate n 0) in
+    let same : z ≡ upTo g (n - m) =
+    ext-getD 0 z (upTo g (n - m)) (l ∙ sym (length-upTo g (n - m)))
+    (λ k h.
+    let b : k < n - m = omega arith in
+    getD-drop m (replicate n 0) k 0 ∙ getD-replicate n (m + k) 0 0 (omega arith)
+    ∙ sym (getD-upTo g (n - m) k b ∙ past-byte c ring (m + k) (omega arith))) in
+    ap (λ (x : List ℕ). upTo f m ++ x) same ∙ sym (upTo-add f m (n - m)) ∙ ap (upTo f) e
 
 -- ---- the cursor of a ready fifo
 

@@ -7,7 +7,7 @@ use fifo::minus;
 use fifo::with_window;
 ghost use mathlib.Core.Path.{_≡_};
 ghost use mathlib.Core.List.{_++_};
-ghost use Prim.Native.Nat.{_≤_};
+ghost use Prim.Native.Nat.{_≤_, min};
 ghost use lib.ListN.{length, drop};
 ghost use Rattle.laws.specs.Values.{upTo};
 ghost use Rattle.queue.specs.Cursor.{opened, onward, byteOf, peeked, copied, skipped, straightBy, closed};
@@ -110,12 +110,18 @@ pub fn copy(cursor: Cursor, ring: &[u8], out: &mut [u8], n: u32)
     copy_front(cursor, ring, out, n);
 }
 
+fn least(a: u32, b: u32) -> u32
+    ensures { λ r. ⌜ r ≡ min a b ⌝ }
+{
+    if a < b { a } else { b }
+}
+
 // The first nine bytes, zeros past the last.
 pub fn peek(cursor: Cursor, ring: &[u8]) -> [u8; 9]
     ensures { λ r. ⌜ r ≡ peeked cursor (now (ring .entry)) ⌝ }
 {
     let mut bytes = [0u8; 9];
-    copy(cursor, ring, &mut bytes, 9);
+    copy(cursor, ring, &mut bytes, least(cursor.left, 9));
     bytes
 }
 
