@@ -1,6 +1,6 @@
 -- `bulk::take_vertices` meets its contract: as many as are whole, left and allowed; the last of them is copied.
 use native.Mathlib.Omega.{arith}
-use Rattle.bulk.proofs.Drawn.{vertices-none, vertices-some}
+use Rattle.bulk.proofs.Drawn.{one-fits, vertices-none, vertices-some}
 use borrow.Author.Needs.{needs}
 use Rattle.bulk.proofs.draws.take_vertices.Statement.{statement}
 use Rattle.bulk.proofs.draws.take_vertices.Tie as tie
@@ -24,7 +24,11 @@ returns : tie.Need-returns
 returns c = vertices-none (c .if1 .taken) (c .before .draw-of .ensures)
 
 copy-last-requires : tie.Need-copy-last-requires
-copy-last-requires c κs = search needs
+copy-last-requires c κs =
+    let w = c .before .before .before .whole in
+    let z = c .before .if1 .left in
+    let one = one-fits (w .result) (c .before .before .before .before .before .before .args .size) (omega arith) in
+    (omega arith, omega (arith, w .ensures .inside, one))
 
 cast-t21 : tie.Need-cast-t21
 cast-t21 c = search needs

@@ -19,7 +19,7 @@ copy-requires c κs = search needs
 
 returns : tie.Need-returns
 unfolding copied peeked
-returns c = 
+returns c =
     let a = c .before .before .before .before .before .args in
     let m : min (c .before .before .least .result) 9 ≡ min (a .cursor .left) 9 = omega (arith, c .before .before .least .ensures) in
     c .before .copy .ensures ∙ rw m (front-zeros (a .cursor) (a .ring .now) 9)
