@@ -4,13 +4,12 @@
 
 mod common;
 
-use common::stream::{format, Stream};
+use common::format::format;
 use common::Hand;
 use compare::duo::Duo;
 use compare::random::Random;
-use compare::scenarios;
+use compare::scenarios::{self, cuts, formats_between_draws};
 use compare::side::Proved;
-use compare::world::{word, Lent};
 use model::words::{FormatWords, ValueWords};
 use model::ATTRIBUTES;
 
@@ -28,48 +27,19 @@ fn compared(seed: u64, calls: u64) -> u64 {
     duo.tally.calls
 }
 
-/// Draws and loads of formats, many of both in a run, in a ring that often wraps.
+/// `compare`'s streams of draws and loads of formats, many of both in a run, and its draws
+/// that are cut: many more of them than among the calls of a seed.
 fn drawn(seed: u64, times: u32) {
     let mut random = Random::new(seed);
     let mut duo = Duo::new(Box::new(Proved), Box::new(Hand));
-    duo.scenario("draws and formats");
     for _ in 0..times {
-        let size = random.pick(&[256, 512, 1024, 4096, 65_536]);
-        fresh(&mut duo, size, &mut random);
-        let mut stream = Stream::new();
-        while stream.bytes.len() < 6 * size.min(4096) as usize {
-            stream.extend(&mut random);
-        }
-        let mut rest = &stream.bytes[..];
-        while !rest.is_empty() {
-            let room = duo.world().room();
-            let most = random.pick(&[room, room, 40.min(room)]);
-            let (now, later) = rest.split_at(rest.len().min(random.between(1, most) as usize));
-            assert_eq!(duo.feed(now), 0);
-            let few = random.below(20);
-            duo.run(random.pick(&[65_535, 65_535, 100_000, few]));
-            duo.run(65_535);
-            rest = later;
-        }
-        if let Some(fault) = duo.fault() {
-            panic!("seed {seed}, {fault}");
-        }
+        formats_between_draws::stream(&mut duo, &mut random);
+        formats_between_draws::each_word(&mut duo, &mut random);
+        cuts::draws_cut(&mut duo, &mut random);
     }
-}
-
-/// A fresh state with an empty ring of so many bytes, the pointers anywhere in it.
-fn fresh(duo: &mut Duo, size: u32, random: &mut Random) {
-    duo.fresh();
-    duo.hold(Lent {
-        ring: size as usize,
-        xf: 4184,
-        vertex: 129,
-    });
-    let pointer = random.below(size);
-    duo.poke(word::END, size);
-    duo.poke(word::WRITE, pointer);
-    duo.poke(word::READ, pointer);
-    duo.poke(word::CONTROL, 1);
+    if let Some(fault) = duo.fault() {
+        panic!("seed {seed}, {fault}");
+    }
 }
 
 /// A vertex of the format's length, or now and then of another; bytes of NaNs among it.
@@ -115,7 +85,7 @@ fn calls_are_the_same() {
 
 #[test]
 fn draws_are_the_same() {
-    drawn(1, 300);
+    drawn(1, 500);
 }
 
 #[test]

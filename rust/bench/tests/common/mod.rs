@@ -1,6 +1,6 @@
 //! The hand-tuned C as a side of `compare`.
 
-pub mod stream;
+pub mod format;
 
 use compare::side::{Proved, Side};
 use model::words::{CommandWords, FormatWords, ReportWords, StateWords, UnitWords, ValueWords};
