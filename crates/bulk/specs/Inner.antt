@@ -17,7 +17,7 @@ pub record Known (cp sizes : List ℕ) : Type 0 where
   pub eight : length sizes ≡ 8
   pub right : (f : ℕ) → f < 8 → (getD sizes f 0 ≡ 0) ⊎ (getD sizes f 0 ≡ vertexBytes cp f)
 
--- a size that is known from now on
+-- the size of a vertex of a format, and sizes that are still right
 pub record Sized (cp : List ℕ) (format size : ℕ) (sizes' : List ℕ) : Type 0 where
   pub size-is : size ≡ vertexBytes cp format
   pub known : Known cp sizes'

@@ -7,6 +7,7 @@ ghost use Prim.Native.Nat.{_+_, _-_, _*_, _<_, _≤_, min};
 ghost use lib.ListN.{length, getD};
 ghost use Rattle.bulk.specs.Inner.{Known, Sized, Fits, copiedAt, MovesVertices, MovesOpen, MovesDraw};
 
+// A byte as a number.
 fn wide(x: u8) -> u32
     ensures { λ r. ⌜ r ≡ x ⌝ }
 {
@@ -38,13 +39,14 @@ fn copy_last(bytes: &[u8], from: usize, n: usize, size: usize, buffer: &mut [u8]
     effect::copy_vertex(buffer, &bytes[start..end]);
 }
 
+// The less of two.
 fn least(a: usize, b: usize) -> usize
     ensures { λ r. ⌜ r ≡ min a b ⌝ }
 {
     if a < b { a } else { b }
 }
 
-// How many vertices of so many bytes are whole in the room, left and allowed: all that are left, where that is so of them.
+// A number of vertices of so many bytes that are whole in the room, left and allowed. All that are left is tried first, without a division.
 fn whole(room: usize, size: usize, left: usize, most: usize) -> usize
     requires { ⌜ (1 ≤ size) × ((size ≤ 129) × (left < 65536)) ⌝ }
     ensures { λ r. ⌜ Fits room size left most r ⌝ }

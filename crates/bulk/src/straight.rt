@@ -3,7 +3,7 @@ use crate::Many;
 use crate::draws;
 use crate::loads;
 use command::Draw;
-use plain::Step;
+use plain::Passed;
 ghost use mathlib.Core.Path.{_≡_};
 ghost use Prim.Native.Nat.{_<_, _≤_};
 ghost use lib.ListN.{length};
@@ -13,7 +13,7 @@ ghost use Rattle.walk.specs.Moves.{Moves, shut};
 ghost use Rattle.bulk.specs.Inner.{MovesAny, Known};
 
 // Units that leave no draw open.
-fn closed(step: Step) -> Many
+fn closed(step: Passed) -> Many
     ensures { λ r. ⌜ (r .units ≡ step .units) × ((r .at ≡ step .at) × (r .draw ≡ Draw.Closed)) ⌝ }
 {
     Many {

@@ -11,7 +11,7 @@ ghost use Rattle.effect.specs.Effect.{keptOf, loadedCp, loadedBp, loaded
 ghost use Rattle.effect.specs.Effect.{drawAfter, openedBy, countedDown, masked, Applied};
 ghost use Rattle.effect.specs.Inner.{fourStored};
 
-// One number or the other: chosen, not branched on.
+// One number or the other. It stands alone in a function, so that the compiler makes a conditional move of it and no branch.
 fn chosen(test: bool, yes: u32, no: u32) -> u32
     ensures { λ r. ⌜ r ≡ cond test yes no ⌝ }
 {

@@ -1,4 +1,4 @@
--- A unit that changes nothing, by its bytes alone.
+-- Bytes that are passed as one unit. That they are one, and change nothing, is not said here: the caller knows it by their opcode.
 use mathlib.Core.Path.{_≡_}
 use mathlib.Core.Bool.{Bool, cond, _&&_}
 use mathlib.Core.List.{List}
@@ -10,7 +10,7 @@ use lib.ListN.{length}
 unfoldable pub thereAt : List ℕ → ℕ → ℕ → Bool
 thereAt bytes at n = leb at (length bytes) && leb n (length bytes - at)
 
--- one unit where its n bytes are there, and else none
+-- one unit of n bytes where so many are there, and else none
 pub record Fixed (bytes : List ℕ) (at n units to : ℕ) : Type 0 where
   pub units-are : units ≡ cond (thereAt bytes at n) 1 0
   pub to-is : to ≡ cond (thereAt bytes at n) (at + n) at

@@ -1,9 +1,14 @@
 // Runs of no-operations: bytes 00.
-use crate::Step;
+use crate::Passed;
 ghost use Prim.Native.Nat.{_+_, _≤_};
 ghost use lib.ListN.{length};
 ghost use Rattle.walk.specs.Moves.{MovesOn};
 ghost use Rattle.plain.specs.Inner.{Quiet, Zeros};
+
+// Zeros are passed in blocks of so many bytes, then of so many, then one by one.
+const WIDE: usize = 128;
+
+const NARROW: usize = 8;
 
 // All bits that so many bytes from a place on have.
 fn bits(bytes: &[u8], at: usize, n: usize) -> u8
@@ -48,17 +53,17 @@ fn end_of(count: usize, from: usize, most: u32) -> usize
 }
 
 // The bytes 00 from a place on, at most so many: each is a unit.
-pub fn take_zeros(bytes: &[u8], from: usize, most: u32) -> Step
+pub fn take_zeros(bytes: &[u8], from: usize, most: u32) -> Passed
     ensures { λ r. ⌜ MovesOn (now (bytes .entry)) from most (r .units) (r .at) ⌝ }
 {
     if bytes.len() < from {
-        return Step { units: 0, at: from };
+        return Passed { units: 0, at: from };
     }
     let end = end_of(bytes.len(), from, most);
-    let far = skim(bytes, from, end, 128);
-    let near = skim(bytes, far, end, 8);
+    let far = skim(bytes, from, end, WIDE);
+    let near = skim(bytes, far, end, NARROW);
     let at = skim(bytes, near, end, 1);
-    Step {
+    Passed {
         units: (at - from) as u32,
         at,
     }

@@ -44,7 +44,7 @@ fn byte(cursor: Cursor, ring: &[u8], k: u32) -> u8
     if place < ring.len() { ring[place] } else { 0 }
 }
 
-// Copies byte after byte, round the ring's end or past the last.
+// Copies byte after byte, for cursors and lengths that fit neither other way: past the last byte, or a ring shorter than the cursor's size.
 fn gather(cursor: Cursor, ring: &[u8], out: &mut [u8], n: u32)
     requires { ⌜ n ≤ length (now out) ⌝ }
     ensures { λ _. ⌜ now (out .exit) ≡ upTo (byteOf cursor (now (ring .entry))) n ++ drop n (now (out .entry)) ⌝ }
@@ -56,7 +56,7 @@ fn gather(cursor: Cursor, ring: &[u8], out: &mut [u8], n: u32)
     }
 }
 
-// Whether the first n bytes are there and lie in two stretches, up to the ring's end and from its first byte on.
+// Whether the first n bytes are there and lie in two stretches, up to the cursor's size and from the ring's first byte on.
 fn round(cursor: Cursor, ring: usize, n: u32) -> bool
     ensures { λ r. ⌜ r ≡ roundBy cursor ring n ⌝ }
 {
@@ -110,6 +110,7 @@ pub fn copy(cursor: Cursor, ring: &[u8], out: &mut [u8], n: u32)
     copy_front(cursor, ring, out, n);
 }
 
+// The less of two.
 fn least(a: u32, b: u32) -> u32
     ensures { λ r. ⌜ r ≡ min a b ⌝ }
 {

@@ -1,4 +1,5 @@
--- Units of the ring's straight stretch from the cursor on: what the inner function promises for every cursor and ring.
+-- Units of the first bytes from a cursor on: what the inner function promises for every cursor and ring. Nobody needs to read this to
+-- believe the crate.
 use mathlib.Core.Path.{_≡_}
 use mathlib.Core.List.{List}
 use Prim.Native.Nat.{ℕ, _≤_}

@@ -1,6 +1,9 @@
 // The units that lie straight in the ring from the cursor on, taken in one call.
 use command::Draw;
 use queue::Cursor;
+ghost use mathlib.Core.Path.{_≡_};
+ghost use mathlib.Core.Bool.{true};
+ghost use Rattle.queue.specs.Cursor.{straightBy};
 ghost use Rattle.running.specs.Stretch.{TakesStretch};
 
 // What is left of the cursor and the draw, and how many units were taken.
@@ -10,12 +13,11 @@ pub struct Stretch {
     pub units: u32,
 }
 
-// How many bytes lie straight.
-fn reach(cursor: Cursor) -> u32 {
-    if cursor.size <= cursor.at {
-        return 0;
-    }
-    let room = cursor.size - cursor.at;
+// How many bytes lie straight: those that are left, or those up to the ring's end.
+fn reach(cursor: Cursor) -> u32
+    ensures { λ r. ⌜ straightBy cursor r ≡ true ⌝ }
+{
+    let room = fifo::minus(cursor.size, cursor.at);
     if cursor.left < room {
         cursor.left
     } else {
@@ -34,19 +36,12 @@ pub(crate) fn take_stretch(
     buffer: &mut [u8],
     most: u32,
 ) -> Stretch
-    ensures { λ r. ⌜ TakesStretch cursor (now (ring .entry)) (now (cp .entry)) (now (bp .entry)) draw (now (xf .entry)) (now (buffer .entry)) most
-        (r .cursor) (r .draw) (r .units) (now (cp .exit)) (now (bp .exit)) (now (xf .exit)) (now (buffer .exit)) ⌝ }
+    ensures { λ r. ⌜ TakesStretch cursor (now (ring .entry)) (now (cp .entry)) (now (bp .entry)) draw (now (xf .entry)) (now (buffer .entry))
+        most (r .cursor) (r .draw) (r .units) (now (cp .exit)) (now (bp .exit)) (now (xf .exit)) (now (buffer .exit)) ⌝ }
 {
     let n = reach(cursor);
     let at = cursor.at as usize;
     let end = at + n as usize;
-    if !queue::straight(cursor, n) {
-        return Stretch {
-            cursor: queue::skip(cursor, 0),
-            draw,
-            units: 0,
-        };
-    }
     if ring.len() < end {
         return Stretch {
             cursor: queue::skip(cursor, 0),

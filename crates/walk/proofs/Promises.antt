@@ -1,11 +1,7 @@
--- Walks keep their promises.
+-- Walks and readings keep their promises.
 use Rattle.walk.specs.Promises.{WalkPromises}
 use Rattle.walk.proofs.Walks.{walk-one}
-use Rattle.walk.proofs.Reading.{walk-reads}
+use Rattle.walk.proofs.Reading.{opens, stops, walk-reads}
 
 pub walk-promises : WalkPromises
-walk-promises =
-    record {
-      reads = walk-reads;
-      one = λ bytes s limit n to to' t t' w v. walk-one bytes 0 s n to to' t t' (w .walk) (v .walk);
-    }
+walk-promises = record { opens = opens; stops = stops; reads = walk-reads; one = walk-one }

@@ -123,7 +123,8 @@ module _ (bytes : List ℕ) where
   same-found {p} {q} {x} {y} e f a b =
       sym a ∙ ap (λ (z : ℕ). flatFound (drop z bytes) x) e ∙ ap (λ (z : Core). flatFound (drop q bytes) z) f ∙ b
 
-  pub walk-one : (from : ℕ) (s : Core) (n to to' : ℕ) (t t' : Core) → Walk bytes from s n to t → Walk bytes from s n to' t' → (to ≡ to') × (t ≡ t')
+  pub walk-one : (from : ℕ) (s : Core) (n to to' : ℕ) (t t' : Core) → Walk bytes from s n to t → Walk bytes from s n to' t'
+      → (to ≡ to') × (t ≡ t')
   unfolding Walk left
   walk-one from s zero to to' t t' w v = (w .0 ∙ sym (v .0), w .1 ∙ sym (v .1))
   walk-one from s (suc n) to to' t t' w v =

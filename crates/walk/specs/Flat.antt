@@ -1,4 +1,5 @@
--- A stream as one list, with no ring: what it goes on with, and what a unit leaves.
+-- A stream as one list, with no ring: what it goes on with, and what a unit leaves. Refusals 1 to 3 are not tested here: they are the
+-- reader's, before the first unit.
 use mathlib.Core.List.{List}
 use Prim.Native.Nat.{ℕ}
 use lib.ListN.{length}
@@ -15,6 +16,7 @@ pub record Core : Type 0 where
   pub xf : List ℕ
   pub buffer : List ℕ
 
+-- the five as one
 abbrev pub coreOf : List ℕ → List ℕ → Draw → List ℕ → List ℕ → Core
 coreOf cp bp draw xf buffer = record { cp = cp; bp = bp; draw = draw; xf = xf; buffer = buffer }
 
@@ -27,7 +29,7 @@ abbrev pub coreAfter : List ℕ → List ℕ → Core → Core
 coreAfter c u s =
     coreOf (cpAfter c (s .cp)) (bpAfter c (s .bp)) (drawAfter c (s .draw)) (xfAfter c u (s .xf)) (vertexAfter c u (s .buffer))
 
--- a unit that was taken: its command, the reported memory address, and its bytes
+-- a unit that was taken: its command, the reported memory address, and how many bytes it has
 pub record Taken : Type 0 where
   pub command : List ℕ
   pub memory : ℕ

@@ -37,7 +37,8 @@ onFound (unit c m n) s r = before (record { command = c; memory = m; length = n 
 onFound (waiting k) s r = stopped s (waiting k)
 onFound (refused k) s r = stopped s (refused k)
 
--- at most so many looks; a look at each unit, and one at the end
+-- at most so many looks, one at each unit and one at the end; where none is left it tells 0 bytes lacking, which no look does: a reading of
+-- all never comes to that
 unfoldable pub reads : ℕ → List ℕ → Core → Reading
 reads zero bytes s = stopped s (waiting 0)
 reads (suc n) bytes s = onFound (flatFound bytes s) s (reads n (restBy (flatFound bytes s) bytes) (coreBy (flatFound bytes s) bytes s))

@@ -7,7 +7,7 @@ use Rattle.command.specs.Command.{unit}
 use Rattle.walk.specs.Flat.{Core, flatFound, coreAfter}
 
 -- one unit more, after what led to a place and a state
-pub record Next (before : ℕ → Core → Type 0) (bytes : List ℕ) (to : ℕ) (s' : Core) : Type 0 where
+pub record OneMore (before : ℕ → Core → Type 0) (bytes : List ℕ) (to : ℕ) (s' : Core) : Type 0 where
   pub place : ℕ
   pub core : Core
   pub command : List ℕ
@@ -21,7 +21,7 @@ pub record Next (before : ℕ → Core → Type 0) (bytes : List ℕ) (to : ℕ)
 -- n units lead from one place of the bytes and its state to another
 unfoldable pub Walk : List ℕ → ℕ → Core → ℕ → ℕ → Core → Type 0
 Walk bytes from s zero to s' = (to ≡ from) × (s' ≡ s)
-Walk bytes from s (suc n) to s' = Next (Walk bytes from s n) bytes to s'
+Walk bytes from s (suc n) to s' = OneMore (Walk bytes from s n) bytes to s'
 
 -- what is taken off the front of the bytes: some units, no more than are allowed, and all that they leave
 pub record TakesMany (bytes : List ℕ) (s : Core) (limit units used : ℕ) (s' : Core) : Type 0 where

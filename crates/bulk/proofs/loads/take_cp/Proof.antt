@@ -60,18 +60,18 @@ shared-slice-read-word-4 c = search needs
 word-requires : tie.Need-word-requires Inv-loop μ-loop
 word-requires c κs = search needs
 
-add-execute : tie.Need-add-execute Inv-loop μ-loop
-add-execute c = search needs
+add-execute-cp : tie.Need-add-execute-cp Inv-loop μ-loop
+add-execute-cp c = search needs
 
-shared-slice-read-execute : tie.Need-shared-slice-read-execute Inv-loop μ-loop
-shared-slice-read-execute c = search needs
+shared-slice-read-execute-cp : tie.Need-shared-slice-read-execute-cp Inv-loop μ-loop
+shared-slice-read-execute-cp c = search needs
 
-execute-requires : tie.Need-execute-requires Inv-loop μ-loop
-execute-requires c κs = c .before .before .before .before .before .before .before .before .before .before .before .before .loop .inv .1 .1 .known
+execute-cp-requires : tie.Need-execute-cp-requires Inv-loop μ-loop
+execute-cp-requires c κs = c .before .before .before .before .before .before .before .before .before .before .before .before .loop .inv .1 .1 .known
 
 returns-3 : tie.Need-returns-3 Inv-loop μ-loop
 returns-3 c =
-    let e = c .before .execute .ensures .none (not-true _ (c .if3 .taken)) in
+    let e = c .before .execute-cp .ensures .none (not-true _ (c .if3 .taken)) in
     rw (e .0, e .1) (c .before .before .before .before .before .before .before .before .before .before .before .before .before .before .loop .inv .1 .1)
 
 add-at : tie.Need-add-at Inv-loop μ-loop
@@ -89,7 +89,7 @@ loop-again c =
     let l = b .before .before .before .before .loop in
     let w = c .before .before .before .before .before .word in
     let t = not-false _ (c .if3 .left) in
-    let e = c .before .execute .ensures in (
+    let e = c .before .execute-cp .ensures in (
       omega arith,
       (
         omega arith,
@@ -125,9 +125,9 @@ take-cp-spec =
     add-word-4
     shared-slice-read-word-4
     word-requires
-    add-execute
-    shared-slice-read-execute
-    execute-requires
+    add-execute-cp
+    shared-slice-read-execute-cp
+    execute-cp-requires
     returns-3
     add-at
     add-units

@@ -1,12 +1,12 @@
--- `bulk::execute` meets its contract: a load of the VCD or a VAT leaves no size known, and every other load leaves them all.
+-- `bulk::execute_cp` meets its contract: a load of the VCD or a VAT leaves no size known, and every other load leaves them all.
 use mathlib.Core.Path.{sym, _∙_}
 use mathlib.Core.Logic.{inl, inr}
 use borrow.Author.Tests.{not-true, not-false}
 use Rattle.bulk.proofs.Sizes.{known-none}
 use Rattle.bulk.proofs.Executed.{known-loaded, load-refused, load-accepted}
 use borrow.Author.Needs.{needs}
-use Rattle.bulk.proofs.loads.execute.Statement.{statement}
-use Rattle.bulk.proofs.loads.execute.Tie as tie
+use Rattle.bulk.proofs.loads.execute_cp.Statement.{statement}
+use Rattle.bulk.proofs.loads.execute_cp.Tie as tie
 
 cp-accepted-requires : tie.Need-cp-accepted-requires
 cp-accepted-requires c κs = search needs
@@ -33,7 +33,7 @@ returns-4 : tie.Need-returns-4
 returns-4 c =
     load-accepted (sym (c .before .before .before .before .before .before .cp-accepted .ensures) ∙ not-false _ (c .before .before .before .before .before .if1 .left)) (c .before .before .before .load-cp .ensures) (known-none _)
 
-pub execute-spec : {M : Type 1} → statement M
-execute-spec =
+pub execute-cp-spec : {M : Type 1} → statement M
+execute-cp-spec =
     tie.close
     (tie.spec cp-accepted-requires returns load-cp-requires returns-2 returns-3 returns-4)
