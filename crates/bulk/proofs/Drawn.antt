@@ -24,11 +24,13 @@ use Rattle.walk.proofs.Walks.{rest-at, first-at, there, One, moves-none, moves-
 use Rattle.bulk.specs.Inner.{Fits, copiedAt, MovesVertices, MovesOpen}
 
 -- ---- a vertex over another of as many bytes
-over-by : (t : Bool) (u v buffer : List ℕ) → length u ≡ length v → leb (length u) (length buffer) ≡ t → copied v (copied u buffer) ≡ copied v buffer
+over-by : (t : Bool) (u v buffer : List ℕ) → length u ≡ length v → leb (length u) (length buffer) ≡ t
+    → copied v (copied u buffer) ≡ copied v buffer
 unfolding copied
 over-by true u v buffer e t =
     let h : length u ≤ length buffer = leb-true (length u) (length buffer) t in
-    let l : length (u ++ drop (length u) buffer) ≡ length buffer = length-append u (drop (length u) buffer) ∙ omega (arith, length-drop (length u) buffer) in
+    let l : length (u ++ drop (length u) buffer) ≡ length buffer = length-append u (drop (length u) buffer)
+    ∙ omega (arith, length-drop (length u) buffer) in
     rw (t, l, ← e) (rw t (ap (λ (x : List ℕ). v ++ x) (drop-at u (drop (length u) buffer) (length u) refl)))
 over-by false u v buffer e t = rw t
 
@@ -81,7 +83,8 @@ module _ (bytes : List ℕ) (from : ℕ) (cp bp : List ℕ) (p f left : ℕ) (xf
         over (take size (drop (from + n * size) bytes)) (take size (drop (from + suc n * size) bytes)) buffer
         (full (from + n * size) (omega arith) ∙ sym (full (from + suc n * size) (omega arith)))
 
-    after : (n : ℕ) → n < left → from + suc n * size ≤ length bytes → state (suc n) ≡ coreAfter vertex (take size (drop (from + n * size) bytes)) (state n)
+    after : (n : ℕ) → n < left → from + suc n * size ≤ length bytes → state (suc n) ≡ coreAfter vertex
+        (take size (drop (from + n * size) bytes)) (state n)
     unfolding cpAfter bpAfter xfAfter vertexAfter drawAfter
     after n h l = rw (less-next p f left n h, held-next n l)
 
@@ -92,18 +95,21 @@ module _ (bytes : List ℕ) (from : ℕ) (cp bp : List ℕ) (p f left : ℕ) (xf
         record {
           command = vertex;
           memory = 0;
-          found = rw (less-open p f left n h) (looks-vertex b (length b) cp p f (left - n) some (there bytes (from + n * size) size (omega arith)));
+          found = rw (less-open p f left n h) (looks-vertex b (length b) cp p f (left - n) some
+              (there bytes (from + n * size) size (omega arith)));
           after = after n h l;
         }
 
-    step : (n most : ℕ) → suc n ≤ left → suc n ≤ most → from + suc n * size ≤ length bytes → Moves bytes from (state 0) most n (from + n * size) (state n)
+    step : (n most : ℕ) → suc n ≤ left → suc n ≤ most → from + suc n * size ≤ length bytes
+        → Moves bytes from (state 0) most n (from + n * size) (state n)
         → Moves bytes from (state 0) most (suc n) (from + suc n * size) (state (suc n))
     step n most h k l w =
         let m : suc n * size ≡ n * size + size = suc-mul n size in
         let e : from + suc n * size ≡ from + n * size + size = omega arith in
         rw (e, ← add-one n) (rw (← add-one n) at (moves-next w (omega arith) (omega arith) (one n h l)))
 
-    vertices : (n most : ℕ) → n ≤ left → n ≤ most → from + n * size ≤ length bytes → Moves bytes from (state 0) most n (from + n * size) (state n)
+    vertices : (n most : ℕ) → n ≤ left → n ≤ most → from + n * size ≤ length bytes
+        → Moves bytes from (state 0) most n (from + n * size) (state n)
     vertices zero most h k l = rw (zero-mul size, add-zero from) (moves-none)
     vertices (suc n) most h k l =
         let m : suc n * size ≡ n * size + size = suc-mul n size in
@@ -142,19 +148,22 @@ one-fits zero size h = absurd (omega (arith, h))
 one-fits (suc n) size h = let m : suc n * size ≡ n * size + size = suc-mul n size in omega arith
 
 -- the part that ends at a place
-pub copied-last : (bytes buffer : List ℕ) {buffer' : List ℕ} (end n : ℕ) → n ≤ end → buffer' ≡ copied (take (end - (end - n)) (drop (end - n) bytes)) buffer
+pub copied-last : (bytes buffer : List ℕ) {buffer' : List ℕ} (end n : ℕ) → n ≤ end
+    → buffer' ≡ copied (take (end - (end - n)) (drop (end - n) bytes)) buffer
     → buffer' ≡ copiedAt bytes (end - n) n buffer
 copied-last bytes buffer end n h e =
     let z : end - (end - n) ≡ n = omega arith in
     e ∙ ap (λ (k : ℕ). copied (take k (drop (end - n) bytes)) buffer) z
 
 module _ {bytes : List ℕ} {from p f left size : ℕ} {buffer : List ℕ} {most : ℕ} where
-  pub vertices-none : {n : ℕ} {draw' : Draw} → n ≡ 0 → draw' ≡ openedBy p f (left - n) → MovesVertices bytes from p f left size buffer most 0 from draw' buffer
+  pub vertices-none : {n : ℕ} {draw' : Draw} → n ≡ 0 → draw' ≡ openedBy p f (left - n)
+      → MovesVertices bytes from p f left size buffer most 0 from draw' buffer
   vertices-none {n} z e =
       let k : left - n ≡ left = omega arith in
       record { any = λ cp bp xf s. rw (e, k) moves-none }
 
-  pub vertices-some : (n : ℕ) {draw' : Draw} {buffer' : List ℕ} → from ≤ length bytes → 1 ≤ size → (n ≡ 0 → ⊥) → Fits (length bytes - from) size left most n
+  pub vertices-some : (n : ℕ) {draw' : Draw} {buffer' : List ℕ} → from ≤ length bytes → 1 ≤ size → (n ≡ 0 → ⊥)
+      → Fits (length bytes - from) size left most n
       → draw' ≡ openedBy p f (left - n) → buffer' ≡ copiedAt bytes (from + n * size - size) size buffer
       → MovesVertices bytes from p f left size buffer most n (from + n * size) draw' buffer'
   vertices-some zero i s z w d b = absurd (z refl)
@@ -211,7 +220,8 @@ pub record Head (bytes : List ℕ) (at op : ℕ) (cp : List ℕ) (size count : �
   pub count-is : count ≡ getD bytes (at + 1) 0 * 256 + getD bytes (at + 2) 0
 
 -- the head, and then vertices of its draw
-pub head-moves : {bytes : List ℕ} {at op : ℕ} {cp : List ℕ} {size count most units to : ℕ} {buffer : List ℕ} {draw' : Draw} {buffer' : List ℕ}
+pub head-moves : {bytes : List ℕ} {at op : ℕ} {cp : List ℕ} {size count most units to : ℕ} {buffer : List ℕ} {draw' : Draw}
+    {buffer' : List ℕ}
     (bp xf : List ℕ) → Head bytes at op cp size count → 1 ≤ most
     → MovesVertices bytes (at + 3) (op / 8 % 8) (op % 8) count size buffer (most - 1) units to draw' buffer'
     → Moves bytes at (shut cp bp xf buffer) most (units + 1) to (coreOf cp bp draw' xf buffer')

@@ -1,9 +1,9 @@
 -- A CP load is a unit of its bytes; where it is neither of the VCD nor of a VAT it leaves every size of a vertex.
-use mathlib.Core.Path.{_≡_, refl, sym, ap, _∙_}
+use mathlib.Core.Path.{_≡_, refl, sym, _∙_}
 use mathlib.Core.Bool.{Bool, true, false, cond, false≢true}
 use mathlib.Core.Logic.{_⊎_, inl, inr, ⊎-elim}
 use mathlib.Core.List.{List}
-use Prim.Native.Nat.{ℕ, _+_, _-_, _*_, _/_, _<_, _≤_}
+use Prim.Native.Nat.{ℕ, _+_, _-_, _*_, _<_, _≤_}
 use native.Mathlib.Omega.{arith}
 use lib.Dec.{ltb}
 use lib.ListN.{length, getD, set, take, drop}
@@ -25,7 +25,8 @@ cp-after : (a n : ℕ) (u bp cp xf buffer : List ℕ) → shut (loadedCp cp a n)
 unfolding cpAfter bpAfter xfAfter vertexAfter drawAfter
 cp-after a n u bp cp xf buffer = refl
 
-pub one-cp : (bytes : List ℕ) (at : ℕ) → 6 ≤ length bytes - at → getD bytes at 0 ≡ 0x08 → cpAccepted (getD bytes (at + 1) 0) ≡ true → (word : ℕ)
+pub one-cp : (bytes : List ℕ) (at : ℕ) → 6 ≤ length bytes - at → getD bytes at 0 ≡ 0x08 → cpAccepted (getD bytes (at + 1) 0) ≡ true
+    → (word : ℕ)
     → word ≡ ((getD bytes (at + 2) 0 * 256 + getD bytes (at + 3) 0) * 256 + getD bytes (at + 4) 0) * 256 + getD bytes (at + 5) 0
     → {cp cp' : List ℕ} → cp' ≡ loadedCp cp (getD bytes (at + 1) 0) word → (bp xf buffer : List ℕ)
     → One bytes at (shut cp bp xf buffer) 6 (shut cp' bp xf buffer)
@@ -36,7 +37,8 @@ one-cp bytes at h op a word w {cp} {cp'} e bp xf buffer =
     record {
       command = loadCp (getD bytes (at + 1) 0) word;
       memory = 0;
-      found = looks-cp b (length b) cp (first-at bytes at ∙ op) (rw (rest-at bytes at 1) a) (there bytes at 6 h) ∙ rw (rest-at bytes at 1, ← n);
+      found = looks-cp b (length b) cp (first-at bytes at ∙ op) (rw (rest-at bytes at 1) a) (there bytes at 6 h)
+          ∙ rw (rest-at bytes at 1, ← n);
       after = rw e (cp-after (getD bytes (at + 1) 0) word (take 6 b) bp cp xf buffer);
     }
 
@@ -56,7 +58,8 @@ place-high a h =
     rw (le-ltb a 0x30 i, le-ltb a 0x70 j, le-ltb a 0xA0 h)
     (⊎-elim (λ (u : a < 0xB0). rw (lt-ltb a 0xB0 u) (inr (omega arith)))
     (λ (l : 0xB0 ≤ a). rw (le-ltb a 0xB0 l)
-    (⊎-elim (λ (u : a < 0xC0). rw (lt-ltb a 0xC0 u) (inr (omega arith))) (λ (m : 0xC0 ≤ a). rw (le-ltb a 0xC0 m) (inr (omega arith))) (order a 0xC0)))
+    (⊎-elim (λ (u : a < 0xC0). rw (lt-ltb a 0xC0 u) (inr (omega arith))) (λ (m : 0xC0 ≤ a). rw (le-ltb a 0xC0 m) (inr (omega arith)))
+    (order a 0xC0)))
     (order a 0xB0))
 
 apart-by : (t : Bool) (cp sizes : List ℕ) (p v : ℕ) → Known cp sizes → Apart p → Known (cond t (set cp p v) cp) sizes

@@ -71,7 +71,8 @@ fn take_vertices(
     most: u32,
 ) -> Many
     requires { ⌜ (from ≤ length (now bytes)) × ((1 ≤ size) × (size ≤ 129)) ⌝ }
-    ensures { λ r. ⌜ MovesVertices (now (bytes .entry)) from primitive format left size (now (buffer .entry)) most (r .units) (r .at) (r .draw)
+    ensures { λ r. ⌜ MovesVertices (now (bytes .entry)) from primitive format left size (now (buffer .entry)) most (r .units) (r .at)
+        (r .draw)
         (now (buffer .exit)) ⌝ }
 {
     let n = whole(bytes.len() - from, size, left as usize, most as usize);

@@ -36,7 +36,8 @@ fn take_class(
 ) -> Many
     requires { ⌜ (at < length (now bytes)) × ((1 ≤ most) × Known (now cp) (now sizes)) ⌝ }
     ensures { λ r. ⌜ MovesAny (now (bytes .entry)) at (shut (now (cp .entry)) (now (bp .entry)) (now (xf .entry)) (now (buffer .entry)))
-        most (r .units) (r .at) (coreOf (now (cp .exit)) (now (bp .exit)) (r .draw) (now (xf .exit)) (now (buffer .exit))) (now (sizes .exit)) ⌝ }
+        most (r .units) (r .at) (coreOf (now (cp .exit)) (now (bp .exit)) (r .draw) (now (xf .exit)) (now (buffer .exit)))
+        (now (sizes .exit)) ⌝ }
 {
     let op = bytes[at];
     match op {
@@ -117,7 +118,8 @@ pub fn take_straight(
     draw: Draw,
     limit: u32,
 ) -> Many
-    ensures { λ r. ⌜ TakesMany (now (bytes .entry)) (coreOf (now (cp .entry)) (now (bp .entry)) draw (now (xf .entry)) (now (buffer .entry)))
+    ensures { λ r. ⌜ TakesMany (now (bytes .entry)) (coreOf (now (cp .entry)) (now (bp .entry)) draw (now (xf .entry))
+        (now (buffer .entry)))
         limit (r .units) (r .at) (coreOf (now (cp .exit)) (now (bp .exit)) (r .draw) (now (xf .exit)) (now (buffer .exit))) ⌝ }
 {
     let first = draws::take_open(bytes, cp, draw, buffer, limit);

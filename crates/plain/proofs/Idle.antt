@@ -1,5 +1,5 @@
 -- Units that change nothing: no-operations and what is reported only.
-use mathlib.Core.Path.{_≡_, refl, sym, ap, _∙_}
+use mathlib.Core.Path.{_≡_, refl, sym, _∙_}
 use mathlib.Core.Logic.{_⊎_, inl, inr, ⊎-elim}
 use mathlib.Core.Bool.{Bool, true, false, cond}
 use mathlib.Core.List.{List}
@@ -9,11 +9,10 @@ use native.Mathlib.Numerals.{add-one}
 use native.Mathlib.Omega.{arith}
 use lib.Bits.{bitOr, bitAnd, or-add-and, and-le-l, and-comm}
 use lib.Dec.{leb}
-use lib.ListN.{length, getD, take, drop, length-drop}
+use lib.ListN.{length, getD, take, drop}
 use borrow.Author.Tests.{ne-eqb, le-ltb, leb-true}
 use borrow.Author.Count.{below-more}
 use Rattle.laws.proofs.Cases.{order, and-left, and-right}
-use Rattle.command.specs.declared.Draw.the-variants.{Closed}
 use Rattle.command.specs.Command.{unit, noOperation, invalidateCache, metrics, loadIndexed, callList}
 use Rattle.command.specs.Look.{whole, byOpcode, lookOf, lookIndexed, lookCall, indexedArray, memoryOf}
 use Rattle.command.proofs.Opcodes.{at-opcode, at-indexed}
@@ -83,14 +82,21 @@ module _ (bytes : List ℕ) (at : ℕ) (cp bp xf buffer : List ℕ) where
   unfolding lookOf byOpcode whole cpAfter bpAfter xfAfter vertexAfter drawAfter
   one-zero h op =
       one-idle noOperation 0 1
-      (rw (ne-eqb (length (drop at bytes)) 0 (some h (omega arith)), first-at bytes at, op, le-ltb (length (drop at bytes)) 1 (there bytes at 1 h))) refl
+      (rw (
+        ne-eqb (length (drop at bytes)) 0 (some h (omega arith)),
+        first-at bytes at,
+        op,
+        le-ltb (length (drop at bytes)) 1
+            (there bytes at 1 h),
+      )) refl
 
   -- by the opcode, where all bytes are there
   looks : {op n : ℕ} → n ≤ length bytes - at → 1 ≤ n → getD bytes at 0 ≡ op → byOpcode op (drop at bytes) (length (drop at bytes)) cp
       ≡ flatFound (drop at bytes) (shut cp bp xf buffer)
   looks {op} {n} h l e = at-opcode (drop at bytes) (length (drop at bytes)) cp (first-at bytes at ∙ e) (some h l)
 
-  one-byte : 1 ≤ length bytes - at → (getD bytes at 0 ≡ 0x44) ⊎ (getD bytes at 0 ≡ 0x48) → One bytes at (shut cp bp xf buffer) 1 (shut cp bp xf buffer)
+  one-byte : 1 ≤ length bytes - at → (getD bytes at 0 ≡ 0x44) ⊎ (getD bytes at 0 ≡ 0x48)
+      → One bytes at (shut cp bp xf buffer) 1 (shut cp bp xf buffer)
   unfolding byOpcode whole cpAfter bpAfter xfAfter vertexAfter drawAfter
   one-byte h (inl e) =
       one-idle metrics 0 1 (sym (looks h (omega arith) e) ∙ rw (le-ltb (length (drop at bytes)) 1 (there bytes at 1 h))) refl
@@ -109,7 +115,8 @@ module _ (bytes : List ℕ) (at : ℕ) (cp bp xf buffer : List ℕ) where
   one-indexed h op e k =
       let b : List ℕ = drop at bytes in
       let index : ℕ = bigEndian b 1 2 in
-      one-idle (loadIndexed (indexedArray op) index (bigEndian b 3 2 / 4096 + 1) (bigEndian b 3 2 % 4096)) (memoryOf cp (indexedArray op) index) 5
+      one-idle (loadIndexed (indexedArray op) index (bigEndian b 3 2 / 4096 + 1) (bigEndian b 3 2 % 4096))
+      (memoryOf cp (indexedArray op) index) 5
       (sym (looks h (omega arith) e) ∙ sym (at-indexed b (length b) cp op k) ∙ rw (le-ltb (length b) 5 (there bytes at 5 h))) refl
 
 -- a unit of so many bytes, or none
@@ -137,8 +144,10 @@ module _ {bytes : List ℕ} {at units to : ℕ} where
   moves-call f e = record { any = λ cp bp xf buffer. fixed-moves f (λ h. one-call bytes at cp bp xf buffer h e) }
 
   pub moves-indexed : Fixed bytes at 5 units to
-      → (getD bytes at 0 ≡ 0x20) ⊎ ((getD bytes at 0 ≡ 0x28) ⊎ ((getD bytes at 0 ≡ 0x30) ⊎ (getD bytes at 0 ≡ 0x38))) → MovesOn bytes at 1 units to
-  moves-indexed f e = record { any = λ cp bp xf buffer. fixed-moves f (λ h. one-indexed bytes at cp bp xf buffer h (getD bytes at 0) refl e) }
+      → (getD bytes at 0 ≡ 0x20) ⊎ ((getD bytes at 0 ≡ 0x28) ⊎ ((getD bytes at 0 ≡ 0x30) ⊎ (getD bytes at 0 ≡ 0x38)))
+      → MovesOn bytes at 1 units to
+  moves-indexed f e =
+      record { any = λ cp bp xf buffer. fixed-moves f (λ h. one-indexed bytes at cp bp xf buffer h (getD bytes at 0) refl e) }
 
 -- so many zeros are so many units
 module _ (bytes : List ℕ) (from most : ℕ) (cp bp xf buffer : List ℕ) where

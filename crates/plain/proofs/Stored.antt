@@ -35,7 +35,8 @@ module _ (bytes : List ℕ) (o : Octets bytes) (at : ℕ) where
   one-bp h op word w {bp} {bp'} e cp xf buffer =
       let b : List ℕ = drop at bytes in
       let x : ℕ → ℕ = λ k. getD bytes (at + k) 0 in
-      let r : word / 16777216 ≡ x 1 = ap (λ (y : ℕ). y / 16777216) w ∙ high (x 1) (x 2) (x 3) (x 4) (o (at + 2)) (o (at + 3)) (o (at + 4)) in
+      let r : word / 16777216 ≡ x 1 = ap (λ (y : ℕ). y / 16777216) w ∙ high (x 1) (x 2) (x 3) (x 4) (o (at + 2)) (o (at + 3))
+      (o (at + 4)) in
       let n : word % 16777216 ≡ bigEndian b 2 3 =
       ap (λ (y : ℕ). y % 16777216) w ∙ low (x 1) (x 2) (x 3) (x 4) (o (at + 2)) (o (at + 3)) (o (at + 4))
       ∙ sym (three-bytes b 2 ∙ rw (rest-at bytes at 2, rest-at bytes at 3, rest-at bytes at 4)) in

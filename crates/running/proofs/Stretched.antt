@@ -10,7 +10,6 @@ use lib.Seq.{take-append-le, drop-append-le, length-take-le}
 use Rattle.octets.proofs.Number.{Octets}
 use Rattle.command.specs.declared.Draw.{Draw}
 use Rattle.command.specs.Command.{unit}
-use Rattle.command.specs.Look.{lookOf}
 use Rattle.command.proofs.Prefix.{look-prefix}
 use Rattle.command.proofs.Extends.{unit-settled}
 use Rattle.walk.specs.Flat.{Core, coreOf, coreAfter, flatFound}
@@ -36,17 +35,30 @@ use Rattle.running.proofs.Course.{Course, hereOf}
 use Rattle.running.proofs.Ahead.{Ahead, ahead-none, ahead-next, course-ahead}
 
 -- nothing taken
-pub stretch-none : (cursor : Cursor) (ring cp bp : List ℕ) (draw : Draw) (xf buffer : List ℕ) (most : ℕ) {cursor' : Cursor} → cursor' ≡ skipped cursor 0
+pub stretch-none : (cursor : Cursor) (ring cp bp : List ℕ) (draw : Draw) (xf buffer : List ℕ) (most : ℕ) {cursor' : Cursor}
+    → cursor' ≡ skipped cursor 0
     → TakesStretch cursor ring cp bp draw xf buffer most cursor' draw 0 cp bp xf buffer
 unfolding Walk
 stretch-none cursor ring cp bp draw xf buffer most e =
-    record { lent = 0; used = 0; there = omega arith; taken = record { within = omega arith; inside = omega arith; walk = (refl, refl) }; moved = e }
+    record {
+      lent = 0;
+      used = 0;
+      there = omega arith;
+      taken = record {
+        within = omega arith;
+        inside = omega arith;
+        walk =
+            (refl, refl);
+      };
+      moved = e;
+    }
 
 -- the part that is lent is the cursor's first bytes
 pub stretch-some : (cursor : Cursor) (ring : List ℕ) (n : ℕ) → straightBy cursor n ≡ true → cursor .at + n ≤ length ring
     → {s s' : Core} {most units used : ℕ} {cursor' : Cursor}
     → TakesMany (take (cursor .at + n - cursor .at) (drop (cursor .at) ring)) s most units used s' → cursor' ≡ skipped cursor used
-    → TakesStretch cursor ring (s .cp) (s .bp) (s .draw) (s .xf) (s .buffer) most cursor' (s' .draw) units (s' .cp) (s' .bp) (s' .xf) (s' .buffer)
+    → TakesStretch cursor ring (s .cp) (s .bp) (s .draw) (s .xf) (s .buffer) most cursor' (s' .draw) units (s' .cp) (s' .bp) (s' .xf)
+    (s' .buffer)
 stretch-some cursor ring n e h {used = used} t m =
     record { lent = n; used = used; there = straight-true cursor n e .there; taken = rw (lent-is cursor ring n e h) at t; moved = m }
 
@@ -74,7 +86,8 @@ module _ (ring : List ℕ) (o : Octets ring) (f : Fifo) (k : ℕ) (s : Core) whe
         ∙ reads-pending (consume f k) ring (passes .ready) .drop-is n (omega (arith, within))
         ∙ ap (drop n) front ∙ drop-append-le n bytes later h
 
-    look-is : (n : ℕ) (t : Core) → n ≤ length bytes → (c : List ℕ) (m l : ℕ) → flatFound (drop n bytes) t ≡ unit c m l → lookAt ring (there n t) ≡ unit c m l
+    look-is : (n : ℕ) (t : Core) → n ≤ length bytes → (c : List ℕ) (m l : ℕ) → flatFound (drop n bytes) t ≡ unit c m l
+        → lookAt ring (there n t) ≡ unit c m l
     unfolding lookAt
     look-is n t h c m l e = rw (queue-is n t h) (unit-later (drop n bytes) later t c m l e)
 
@@ -107,11 +120,12 @@ module _ (ring : List ℕ) (o : Octets ring) (f : Fifo) (k : ℕ) (s : Core) whe
     walk-ahead zero to t w =
         rw (w .0, w .1) (record { inside = omega arith; ahead = rw (add-zero k) (ahead-none ring o start passes) })
     walk-ahead (suc n) to t w =
-        rw (w .moved) (step n (w .place) (w .core) t (walk-ahead n (w .place) (w .core) (w .came)) (w .command) (w .memory) (w .size) (w .found) (w .after))
+        rw (w .moved) (step n (w .place) (w .core) t (walk-ahead n (w .place) (w .core) (w .came)) (w .command) (w .memory) (w .size)
+        (w .found) (w .after))
 
 -- a run goes on after them
-module _ (ring : List ℕ) (o : Octets ring) {limit : ℕ} {s : State} {cursor : Cursor} {cp bp : List ℕ} {draw : Draw} {xf buffer : List ℕ} {units most : ℕ}
-    {cursor' : Cursor} {draw' : Draw} {n : ℕ} {cp' bp' xf' buffer' : List ℕ} where
+module _ (ring : List ℕ) (o : Octets ring) {limit : ℕ} {s : State} {cursor : Cursor} {cp bp : List ℕ} {draw : Draw} {xf buffer : List ℕ}
+    {units most : ℕ} {cursor' : Cursor} {draw' : Draw} {n : ℕ} {cp' bp' xf' buffer' : List ℕ} where
   pub course-stretch : Course ring limit s cursor cp bp draw xf buffer units
       → TakesStretch cursor ring cp bp draw xf buffer most cursor' draw' n cp' bp' xf' buffer' → units + most ≤ limit
       → Course ring limit s cursor' cp' bp' draw' xf' buffer' (units + n)
@@ -125,17 +139,25 @@ module _ (ring : List ℕ) (o : Octets ring) {limit : ℕ} {s : State} {cursor :
       let fits : t .lent ≤ countOf (here .window) = omega (arith, t .there) in
       let b : bytesAt cursor ring (t .lent) ≡ take (t .lent) queue =
       ap (λ (x : Cursor). bytesAt x ring (t .lent)) (at .cursor-is) ∙ r .bytes-are (t .lent) fits in
-      let m : TakesMany (take (t .lent) queue) (coreOf cp bp draw xf buffer) most n (t .used) (coreOf cp' bp' draw' xf' buffer') = rw b at (t .taken) in
+      let m : TakesMany (take (t .lent) queue) (coreOf cp bp draw xf buffer) most n (t .used) (coreOf cp' bp' draw' xf' buffer') = rw b at
+      (t .taken) in
       let w = walk-ahead ring o f k (coreOf cp bp draw xf buffer) (at .passes) (take (t .lent) queue) (drop (t .lent) queue)
       (sym (take-append-drop (t .lent) queue)) n (t .used) (coreOf cp' bp' draw' xf' buffer') (m .walk) in
-      let used : t .used ≤ countOf (here .window) = omega (arith, m .inside, length-take-le (t .lent) queue (omega (arith, length-pending (here .window) ring))) in
+      let used : t .used ≤ countOf (here .window) = omega (
+        arith,
+        m .inside,
+        length-take-le (t .lent) queue
+            (omega (arith, length-pending (here .window) ring)),
+      ) in
       course-ahead at n (k + t .used) (omega (arith, m .within))
-      (t .moved ∙ ap (λ (x : Cursor). skipped x (t .used)) (at .cursor-is) ∙ r .skip-is (t .used) used ∙ ap opened (consume-consume f k (t .used)))
+      (t .moved ∙ ap (λ (x : Cursor). skipped x (t .used)) (at .cursor-is) ∙ r .skip-is (t .used) used
+      ∙ ap opened (consume-consume f k (t .used)))
       (w .ahead)
 
 -- a unit taken where a run has come to
 pub takes-course : {ring : List ℕ} {limit : ℕ} {s : State} {cursor : Cursor} {cp bp : List ℕ} {draw : Draw} {xf buffer : List ℕ} {units : ℕ}
-    (at : Course ring limit s cursor cp bp draw xf buffer units) {answer : StepAnswer} {cursor' : Cursor} {draw' : Draw} {cp' bp' xf' buffer' : List ℕ}
+    (at : Course ring limit s cursor cp bp draw xf buffer units) {answer : StepAnswer} {cursor' : Cursor} {draw' : Draw}
+    {cp' bp' xf' buffer' : List ℕ}
     → Takes (seen cursor ring cp draw) cursor ring cp bp draw xf buffer answer cursor' draw' cp' bp' xf' buffer'
     → TakesUnit ring (hereOf (s .fifo) (at .consumed) cp bp draw xf buffer) answer cursor' draw' cp' bp' xf' buffer'
 takes-course {ring} {s = s} {cp = cp} {bp = bp} {draw = draw} {xf = xf} {buffer = buffer} at t =

@@ -36,7 +36,8 @@ pub(crate) fn take_stretch(
     buffer: &mut [u8],
     most: u32,
 ) -> Stretch
-    ensures { λ r. ⌜ TakesStretch cursor (now (ring .entry)) (now (cp .entry)) (now (bp .entry)) draw (now (xf .entry)) (now (buffer .entry))
+    ensures { λ r. ⌜ TakesStretch cursor (now (ring .entry)) (now (cp .entry)) (now (bp .entry)) draw (now (xf .entry))
+        (now (buffer .entry))
         most (r .cursor) (r .draw) (r .units) (now (cp .exit)) (now (bp .exit)) (now (xf .exit)) (now (buffer .exit)) ⌝ }
 {
     let n = reach(cursor);

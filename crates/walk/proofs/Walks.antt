@@ -78,7 +78,8 @@ module _ {bytes : List ℕ} {from : ℕ} {s : Core} {most : ℕ} where
       })
 
   -- units, and then others
-  pub moves-then : {n m rest place to : ℕ} {t u : Core} → Moves bytes from s most n place t → Moves bytes place t rest m to u → n + rest ≤ most
+  pub moves-then : {n m rest place to : ℕ} {t u : Core} → Moves bytes from s most n place t → Moves bytes place t rest m to u
+      → n + rest ≤ most
       → Moves bytes from s most (n + m) to u
   moves-then {n} {m} {rest} {place} {to} {t} {u} w v h =
       record {
@@ -88,7 +89,8 @@ module _ {bytes : List ℕ} {from : ℕ} {s : Core} {most : ℕ} where
       }
 
 -- one unit, as a move
-pub moved-one : {bytes : List ℕ} {at size : ℕ} {s t : Core} → at + size ≤ length bytes → One bytes at s size t → Moves bytes at s 1 1 (at + size) t
+pub moved-one : {bytes : List ℕ} {at size : ℕ} {s t : Core} → at + size ≤ length bytes → One bytes at s size t
+    → Moves bytes at s 1 1 (at + size) t
 moved-one {bytes} {at} {size} h o = moves-next moves-none (omega arith) h o
 
 -- no fewer are allowed

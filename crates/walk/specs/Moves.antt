@@ -1,5 +1,5 @@
--- What the functions of one class of units promise to the one that calls them all, which promises `TakesMany`: to believe that, this need not
--- be read.
+-- What the functions of one class of units promise to the one that calls them all, which promises `TakesMany`: to believe that, this need
+-- not be read.
 use mathlib.Core.List.{List}
 use Prim.Native.Nat.{ℕ, _≤_}
 use lib.ListN.{length}

@@ -26,7 +26,8 @@ pub record ReadsOn (bytes : List ℕ) (from : ℕ) (s : Core) (n to : ℕ) (s' :
 pub record WalkPromises : Type 0 where
   -- where a unit is found, a reading is that unit and the reading of the rest
   pub opens : (bytes : List ℕ) (s : Core) (c : List ℕ) (m l : ℕ) → flatFound bytes s ≡ unit c m l
-      → readAll bytes s ≡ before (record { command = c; memory = m; length = l } ∷ []) (readAll (drop l bytes) (coreAfter c (take l bytes) s))
+      → readAll bytes s ≡ before (record { command = c; memory = m; length = l } ∷ [])
+      (readAll (drop l bytes) (coreAfter c (take l bytes) s))
   -- where none is found, it ends there, with what was found
   pub stops : (bytes : List ℕ) (s : Core) → NoUnit (flatFound bytes s) → readAll bytes s ≡ stopped s (flatFound bytes s)
   -- the units of a walk are the next ones of the reading, which goes on where the walk ended

@@ -65,7 +65,9 @@ same-length c = search needs
 
 returns : tie.Need-returns
 unfolding fourStored
-returns c = rw (c .before .before .before .word-at .ensures, c .before .before .word-at2 .ensures, c .before .word-at3 .ensures, c .word-at4 .ensures)
+returns c =
+    let c3 = c .before .before .before in
+    rw (c3 .word-at .ensures, c .before .before .word-at2 .ensures, c .before .word-at3 .ensures, c .word-at4 .ensures)
 
 pub store-four-spec : {M : Type 1} → statement M
 store-four-spec =

@@ -19,7 +19,9 @@ vertex-bytes-requires : tie.Need-vertex-bytes-requires
 vertex-bytes-requires c κs = search needs
 
 cast-sizes : tie.Need-cast-sizes
-cast-sizes c = omega (arith, c .vertex-bytes .ensures, bytes-most (c .before .before .before .before .args .cp .now) (c .before .before .before .before .args .format))
+cast-sizes c =
+    let c4 = c .before .before .before .before in
+    omega (arith, c .vertex-bytes .ensures, bytes-most (c4 .args .cp .now) (c4 .args .format))
 
 element-write-sizes : tie.Need-element-write-sizes
 element-write-sizes c = search needs

@@ -47,16 +47,23 @@ sub-take-vertices c = search needs
 
 take-vertices-requires : tie.Need-take-vertices-requires
 take-vertices-requires c κs =
-    let p = c .before .before .before .before .before .before .before .before .before .before in
-    let z = c .before .before .before .before .before .size-of in (
-      omega (arith, c .before .before .before .before .before .before .before .if1 .left, p .pre .0),
-      (omega (arith, c .before .before .before .before .if2 .left), omega (arith, z .ensures .size-is, bytes-most (p .args .cp .now) (p .args .op % 8))),
+    let c4 = c .before .before .before .before in
+    let c5 = c4 .before in
+    let c7 = c5 .before .before in
+    let c10 = c7 .before .before .before in
+    let p = c10 in
+    let z = c5 .size-of in (
+      omega (arith, c7 .if1 .left, p .pre .0),
+      (omega (arith, c4 .if2 .left), omega (arith, z .ensures .size-is, bytes-most (p .args .cp .now) (p .args .op % 8))),
     )
 
 add-t17 : tie.Need-add-t17
 add-t17 c =
-    let p = c .before .before .before .before .before .before .before .before .before .before .before .before .before .before in
-    let v = c .before .before .before .take-vertices .ensures .any (p .args .cp .now) [] [] (c .before .before .before .before .before .before .before .before .before .size-of .ensures .size-is) in
+    let c3 = c .before .before .before in
+    let c9 = c3 .before .before .before .before .before .before in
+    let c14 = c9 .before .before .before .before .before in
+    let p = c14 in
+    let v = c3 .take-vertices .ensures .any (p .args .cp .now) [] [] (c9 .size-of .ensures .size-is) in
     record { fits = omega (arith, v .within, p .fits .most, p .pre .1 .1 .1 .1 .0) }
 
 same-length : tie.Need-same-length

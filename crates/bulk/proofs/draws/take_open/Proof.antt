@@ -26,9 +26,11 @@ returns-2 c = rw (c .before .before .before .before .draw .given .1) open-none
 
 take-vertices-requires : tie.Need-take-vertices-requires
 take-vertices-requires c κs =
-    let a = c .before .before .before .before .before .before .before .before .before .args in
+    let c5 = c .before .before .before .before .before in
+    let c9 = c5 .before .before .before .before in
+    let a = c9 .args in
     let v = c .before .before .vertex-bytes in
-    (omega arith, (omega (arith, c .before .if2 .left), omega (arith, v .ensures, bytes-most (a .cp .now) (c .before .before .before .before .before .draw .given .0 .1 .0))))
+    (omega arith, (omega (arith, c .before .if2 .left), omega (arith, v .ensures, bytes-most (a .cp .now) (c5 .draw .given .0 .1 .0))))
 
 returns-3 : tie.Need-returns-3
 returns-3 c = open-none
@@ -38,8 +40,11 @@ same-length c = search needs
 
 returns-4 : tie.Need-returns-4
 returns-4 c =
-    rw (c .before .before .before .before .before .before .before .before .draw .given .1)
-    (open-some (c .before .before .before .before .before .before .if1 .left) (c .before .before .before .before .before .vertex-bytes .ensures) (c .before .before .take-vertices .ensures))
+    let c5 = c .before .before .before .before .before in
+    let c6 = c5 .before in
+    let c8 = c6 .before .before in
+    rw (c8 .draw .given .1)
+    (open-some (c6 .if1 .left) (c5 .vertex-bytes .ensures) (c .before .before .take-vertices .ensures))
 
 pub take-open-spec : {M : Type 1} → statement M
 take-open-spec =

@@ -44,9 +44,13 @@ same-length c = search needs
 
 returns-2 : tie.Need-returns-2
 returns-2 c =
-    let w = c .before .before .before .before .before .before .whole in
-    let p = c .before .before .before .before .before .before .before .before .before .pre in
-    vertices-some (w .result) (p .0) (p .1 .0) (c .before .before .before .before .if1 .left) (w .ensures) (c .before .before .before .before .before .draw-of .ensures) (c .before .before .copy-last .ensures)
+    let c4 = c .before .before .before .before in
+    let c5 = c4 .before in
+    let c6 = c5 .before in
+    let c9 = c6 .before .before .before in
+    let w = c6 .whole in
+    let p = c9 .pre in
+    vertices-some (w .result) (p .0) (p .1 .0) (c4 .if1 .left) (w .ensures) (c5 .draw-of .ensures) (c .before .before .copy-last .ensures)
 
 pub take-vertices-spec : {M : Type 1} → statement M
 take-vertices-spec =

@@ -19,19 +19,28 @@ load-cp-requires c κs = search needs
 
 returns-2 : tie.Need-returns-2
 returns-2 c =
+    let c3 = c .before .before .before in
+    let c4 = c3 .before in
+    let c5 = c4 .before in
     let l = c .before .load-cp .ensures in
-    load-accepted (sym (c .before .before .before .before .cp-accepted .ensures) ∙ not-false _ (c .before .before .before .if1 .left)) l
-    (known-loaded (c .before .before .before .before .before .args .address) (c .before .before .before .before .before .args .number) l (inr (c .if2 .taken)) (c .before .before .before .before .before .pre))
+    load-accepted (sym (c4 .cp-accepted .ensures) ∙ not-false _ (c3 .if1 .left)) l
+    (known-loaded (c5 .args .address) (c5 .args .number) l (inr (c .if2 .taken)) (c5 .pre))
 
 returns-3 : tie.Need-returns-3
 returns-3 c =
+    let c4 = c .before .before .before .before in
+    let c5 = c4 .before in
+    let c6 = c5 .before in
     let l = c .before .before .load-cp .ensures in
-    load-accepted (sym (c .before .before .before .before .before .cp-accepted .ensures) ∙ not-false _ (c .before .before .before .before .if1 .left)) l
-    (known-loaded (c .before .before .before .before .before .before .args .address) (c .before .before .before .before .before .before .args .number) l (inl (c .if3 .taken)) (c .before .before .before .before .before .before .pre))
+    load-accepted (sym (c5 .cp-accepted .ensures) ∙ not-false _ (c4 .if1 .left)) l
+    (known-loaded (c6 .args .address) (c6 .args .number) l (inl (c .if3 .taken)) (c6 .pre))
 
 returns-4 : tie.Need-returns-4
 returns-4 c =
-    load-accepted (sym (c .before .before .before .before .before .before .cp-accepted .ensures) ∙ not-false _ (c .before .before .before .before .before .if1 .left)) (c .before .before .before .load-cp .ensures) (known-none _)
+    let c3 = c .before .before .before in
+    let c5 = c3 .before .before in
+    let c6 = c5 .before in
+    load-accepted (sym (c6 .cp-accepted .ensures) ∙ not-false _ (c5 .if1 .left)) (c3 .load-cp .ensures) (known-none _)
 
 pub execute-cp-spec : {M : Type 1} → statement M
 execute-cp-spec =

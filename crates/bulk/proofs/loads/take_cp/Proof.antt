@@ -67,12 +67,15 @@ shared-slice-read-execute-cp : tie.Need-shared-slice-read-execute-cp Inv-loop μ
 shared-slice-read-execute-cp c = search needs
 
 execute-cp-requires : tie.Need-execute-cp-requires Inv-loop μ-loop
-execute-cp-requires c κs = c .before .before .before .before .before .before .before .before .before .before .before .before .loop .inv .1 .1 .known
+execute-cp-requires c κs =
+    let c12 = c .before .before .before .before .before .before .before .before .before .before .before .before in
+    c12 .loop .inv .1 .1 .known
 
 returns-3 : tie.Need-returns-3 Inv-loop μ-loop
 returns-3 c =
+    let c14 = c .before .before .before .before .before .before .before .before .before .before .before .before .before .before in
     let e = c .before .execute-cp .ensures .none (not-true _ (c .if3 .taken)) in
-    rw (e .0, e .1) (c .before .before .before .before .before .before .before .before .before .before .before .before .before .before .loop .inv .1 .1)
+    rw (e .0, e .1) (c14 .loop .inv .1 .1)
 
 add-at : tie.Need-add-at Inv-loop μ-loop
 add-at c = search needs
@@ -85,9 +88,11 @@ loop-less c = search needs
 
 loop-again : tie.Need-loop-again Inv-loop μ-loop
 loop-again c =
-    let b = c .before .before .before .before .before .before .before .before .before .before in
+    let c5 = c .before .before .before .before .before in
+    let c10 = c5 .before .before .before .before .before in
+    let b = c10 in
     let l = b .before .before .before .before .loop in
-    let w = c .before .before .before .before .before .word in
+    let w = c5 .word in
     let t = not-false _ (c .if3 .left) in
     let e = c .before .execute-cp .ensures in (
       omega arith,
@@ -96,7 +101,8 @@ loop-again c =
         record {
           any = λ bp xf buffer.
               moves-next (l .inv .1 .1 .any bp xf buffer) (b .before .before .before .loop-test .taken) (omega arith)
-              (one-cp _ (l .at) (b .before .before .if1 .left) (b .if2 .left) (sym (e .accepted-is) ∙ t) (w .result) (w .ensures) (e .loaded t .0) bp xf buffer);
+              (one-cp _ (l .at) (b .before .before .if1 .left) (b .if2 .left) (sym (e .accepted-is) ∙ t) (w .result) (w .ensures)
+              (e .loaded t .0) bp xf buffer);
           known = e .loaded t .1;
         },
       ),

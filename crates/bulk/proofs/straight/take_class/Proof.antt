@@ -1,5 +1,4 @@
 -- `bulk::take_class` meets its contract: each arm is the law of its class.
-use native.Mathlib.Omega.{arith}
 use Rattle.walk.proofs.Walks.{moves-none, moves-most}
 use Rattle.plain.proofs.Idle.{moves-byte, moves-indexed, moves-call}
 use Rattle.bulk.proofs.Classes.{closed-any}
@@ -56,10 +55,14 @@ take-draw-requires : tie.Need-take-draw-requires
 take-draw-requires c κs = search needs
 
 returns : tie.Need-returns
-returns c = closed-any (c .closed .ensures) (c .before .take-bp .ensures .any _ _ _) (c .before .before .before .before .before .before .before .before .pre .1 .1)
+returns c =
+    let c8 = c .before .before .before .before .before .before .before .before in
+    closed-any (c .closed .ensures) (c .before .take-bp .ensures .any _ _ _) (c8 .pre .1 .1)
 
 returns-2 : tie.Need-returns-2
-returns-2 c = closed-any (c .closed2 .ensures) (c .before .take-zeros .ensures .any _ _ _ _) (c .before .before .before .before .before .before .before .pre .1 .1)
+returns-2 c =
+    let c7 = c .before .before .before .before .before .before .before in
+    closed-any (c .closed2 .ensures) (c .before .take-zeros .ensures .any _ _ _ _) (c7 .pre .1 .1)
 
 returns-3 : tie.Need-returns-3
 returns-3 c = closed-any (c .closed3 .ensures) (c .before .take-cp .ensures .any _ _ _) (c .before .take-cp .ensures .known)
@@ -74,20 +77,26 @@ returns-4 c =
 
 returns-5 : tie.Need-returns-5
 returns-5 c =
-    let p = c .before .before .before .before .before .before .before .pre in
-    closed-any (c .closed5 .ensures) (moves-most 1 _ (p .1 .0) (moves-byte (c .before .take-fixed .ensures) (c .before .before .match .keys5) .any _ _ _ _))
+    let c7 = c .before .before .before .before .before .before .before in
+    let p = c7 .pre in
+    closed-any (c .closed5 .ensures) (moves-most 1 _ (p .1 .0) (moves-byte (c .before .take-fixed .ensures)
+    (c .before .before .match .keys5) .any _ _ _ _))
     (p .1 .1)
 
 returns-6 : tie.Need-returns-6
 returns-6 c =
-    let p = c .before .before .before .before .before .before .before .pre in
-    closed-any (c .closed6 .ensures) (moves-most 1 _ (p .1 .0) (moves-indexed (c .before .take-fixed2 .ensures) (c .before .before .match .keys6) .any _ _ _ _))
+    let c7 = c .before .before .before .before .before .before .before in
+    let p = c7 .pre in
+    closed-any (c .closed6 .ensures) (moves-most 1 _ (p .1 .0) (moves-indexed (c .before .take-fixed2 .ensures)
+    (c .before .before .match .keys6) .any _ _ _ _))
     (p .1 .1)
 
 returns-7 : tie.Need-returns-7
 returns-7 c =
-    let p = c .before .before .before .before .before .before .before .pre in
-    closed-any (c .closed7 .ensures) (moves-most 1 _ (p .1 .0) (moves-call (c .before .take-fixed3 .ensures) (c .before .before .match .keys7) .any _ _ _ _))
+    let c7 = c .before .before .before .before .before .before .before in
+    let p = c7 .pre in
+    closed-any (c .closed7 .ensures) (moves-most 1 _ (p .1 .0) (moves-call (c .before .take-fixed3 .ensures)
+    (c .before .before .match .keys7) .any _ _ _ _))
     (p .1 .1)
 
 same-length-2 : tie.Need-same-length-2

@@ -54,8 +54,10 @@ same-length-4 c = search needs
 
 returns-2 : tie.Need-returns-2 Inv-loop μ-loop
 returns-2 c =
-    let l = c .before .before .before .before .before .before .before .before .before .before .before .before .before .before .before .loop .inv in
-    moves-then (l .1 .1 .1 .1 .1) (c .before .before .before .before .before .before .before .take-class .ensures .moves) (omega arith)
+    let c7 = c .before .before .before .before .before .before .before in
+    let c15 = c7 .before .before .before .before .before .before .before .before in
+    let l = c15 .loop .inv in
+    moves-then (l .1 .1 .1 .1 .1) (c7 .take-class .ensures .moves) (omega arith)
 
 same-length-5 : tie.Need-same-length-5 Inv-loop μ-loop
 same-length-5 c = search needs
@@ -65,8 +67,10 @@ same-length-6 c = search needs
 
 returns-3 : tie.Need-returns-3 Inv-loop μ-loop
 returns-3 c =
-    let l = c .before .before .before .before .before .before .before .before .before .before .before .before .before .before .before .before .before .loop .inv in
-    let m = c .before .before .before .before .before .before .before .before .before .take-class .ensures .moves in
+    let c9 = c .before .before .before .before .before .before .before .before .before in
+    let c17 = c9 .before .before .before .before .before .before .before .before in
+    let l = c17 .loop .inv in
+    let m = c9 .take-class .ensures .moves in
     moves-then (l .1 .1 .1 .1 .1) (rw (c .before .before .enum-told .given .1) at m) (omega arith)
 
 loop-less : tie.Need-loop-less Inv-loop μ-loop
@@ -74,15 +78,24 @@ loop-less c = omega (arith, c .before .before .before .before .before .before .b
 
 loop-again : tie.Need-loop-again Inv-loop μ-loop
 loop-again c =
-    let l = c .before .before .before .before .before .before .before .before .before .before .before .before .before .before .before .before .before .loop .inv in
-    let e = c .before .before .before .before .before .before .before .before .before .take-class .ensures in
+    let c9 = c .before .before .before .before .before .before .before .before .before in
+    let c17 = c9 .before .before .before .before .before .before .before .before in
+    let l = c17 .loop .inv in
+    let e = c9 .take-class .ensures in
     let m = e .moves in (
       search needs,
       (
         search needs,
         (
           m .inside (l .1 .1 .0),
-          (omega (arith, m .within), (e .known, moves-then (l .1 .1 .1 .1 .1) (rw (c .before .before .enum-told .given .1) at m) (omega arith))),
+          (
+            omega (arith, m .within),
+            (
+              e .known,
+              moves-then (l .1 .1 .1 .1 .1) (rw (c .before .before .enum-told .given .1) at m)
+                  (omega arith),
+            ),
+          ),
         ),
       ),
     )

@@ -22,19 +22,26 @@ returns c = moves-many (c .before .before .before .before .take-open .ensures .a
 
 sub-take-shut : tie.Need-sub-take-shut
 sub-take-shut c =
-    let a = c .before .before .before .before .before .before .before .before .before .before .before .before .before .before .before .args in
-    c .before .before .before .before .before .before .before .before .before .take-open .ensures .any (a .bp .now) (a .xf .now) .within
+    let c9 = c .before .before .before .before .before .before .before .before .before in
+    let c15 = c9 .before .before .before .before .before .before in
+    let a = c15 .args in
+    c9 .take-open .ensures .any (a .bp .now) (a .xf .now) .within
 
 take-shut-requires : tie.Need-take-shut-requires
 take-shut-requires c κs =
-    let a = c .before .before .before .before .before .before .before .before .before .before .before .before .before .before .before .args in
-    c .before .before .before .before .before .before .before .before .before .take-open .ensures .any (a .bp .now) (a .xf .now) .inside (omega arith)
+    let c9 = c .before .before .before .before .before .before .before .before .before in
+    let c15 = c9 .before .before .before .before .before .before in
+    let a = c15 .args in
+    c9 .take-open .ensures .any (a .bp .now) (a .xf .now) .inside (omega arith)
 
 add-t21 : tie.Need-add-t21
 add-t21 c =
-    let p = c .before .before .before .before .before .before .before .before .before .before .before .before .before .before .before .before .before .before .before .before .before .before in
-    let o = c .before .before .before .before .before .before .before .before .before .before .before .before .before .before .before .before .take-open .ensures .any (p .args .bp .now) (p .args .xf .now) in
-    omega (arith, p .fits .limit, c .before .before .before .before .before .before .take-shut .ensures .within, o .within)
+    let c6 = c .before .before .before .before .before .before in
+    let c16 = c6 .before .before .before .before .before .before .before .before .before .before in
+    let c22 = c16 .before .before .before .before .before .before in
+    let p = c22 in
+    let o = c16 .take-open .ensures .any (p .args .bp .now) (p .args .xf .now) in
+    omega (arith, p .fits .limit, c6 .take-shut .ensures .within, o .within)
 
 same-length-2 : tie.Need-same-length-2
 same-length-2 c = search needs
@@ -44,9 +51,13 @@ same-length-3 c = search needs
 
 returns-2 : tie.Need-returns-2
 returns-2 c =
-    let a = c .before .before .before .before .before .before .before .before .before .before .before .before .before .before .before .before .before .before .before .before .before .before .args in
-    let o = c .before .before .before .before .before .before .before .before .before .before .before .before .before .before .before .before .take-open .ensures .any (a .bp .now) (a .xf .now) in
-    moves-many (moves-then (rw (c .before .before .before .before .before .before .before .before .before .before .before .before .enum-told .given .1) at o) (c .before .before .before .before .before .before .take-shut .ensures) (omega (arith, o .within)))
+    let c6 = c .before .before .before .before .before .before in
+    let c12 = c6 .before .before .before .before .before .before in
+    let c16 = c12 .before .before .before .before in
+    let c22 = c16 .before .before .before .before .before .before in
+    let a = c22 .args in
+    let o = c16 .take-open .ensures .any (a .bp .now) (a .xf .now) in
+    moves-many (moves-then (rw (c12 .enum-told .given .1) at o) (c6 .take-shut .ensures) (omega (arith, o .within)))
 
 pub take-straight-spec : {M : Type 1} → statement M
 take-straight-spec =

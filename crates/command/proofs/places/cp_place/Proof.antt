@@ -68,7 +68,9 @@ returns-5 c =
 
 returns-6 : tie.Need-returns-6
 unfolding cpPlace
-returns-6 c = rw (le-ltb _ _ (c .before .before .if3 .left), le-ltb _ _ (c .before .if4 .left), lt-ltb _ _ (c .before .before .before .if1 .left), le-ltb _ _ (c .if5 .left))
+returns-6 c =
+    let c3 = c .before .before .before in
+    rw (le-ltb _ _ (c .before .before .if3 .left), le-ltb _ _ (c .before .if4 .left), lt-ltb _ _ (c3 .if1 .left), le-ltb _ _ (c .if5 .left))
 
 pub cp-place-spec : {M : Type 1} → statement M
 cp-place-spec =

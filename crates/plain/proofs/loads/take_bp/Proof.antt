@@ -77,7 +77,8 @@ loop-less c = search needs
 
 loop-again : tie.Need-loop-again Inv-loop μ-loop
 loop-again c =
-    let b = c .before .before .before .before .before .before in
+    let c6 = c .before .before .before .before .before .before in
+    let b = c6 in
     let l = b .before .before .before .before .before .loop in
     let w = c .before .before .word in (
       omega arith,
@@ -86,7 +87,8 @@ loop-again c =
         record {
           any = λ cp xf buffer.
               moves-next (l .inv .1 .1 .any cp xf buffer) (b .before .before .before .before .loop-test .taken) (omega arith)
-              (one-bp _ (λ k. b .before .before .before .before .before .before .before .shared-slice-known .given k .fits) (l .at) (b .before .before .before .if2 .left) (b .before .if3 .left) (w .result) (w .ensures)
+              (one-bp _ (λ k. b .before .before .before .before .before .before .before .shared-slice-known .given k .fits) (l .at)
+              (b .before .before .before .if2 .left) (b .before .if3 .left) (w .result) (w .ensures)
               (c .load-bp .ensures) cp xf buffer);
         },
       ),

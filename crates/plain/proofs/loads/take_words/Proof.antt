@@ -39,7 +39,10 @@ same-length : tie.Need-same-length
 same-length c = search needs
 
 returns-2 : tie.Need-returns-2
-returns-2 c = one-xf _ _ _ _ (c .before .before .before .before .before .before .before .before .pre) (c .before .before .before .before .before .if1 .left) (c .before .before .load-xf .ensures)
+returns-2 c =
+    let c5 = c .before .before .before .before .before in
+    let c8 = c5 .before .before .before in
+    one-xf _ _ _ _ (c8 .pre) (c5 .if1 .left) (c .before .before .load-xf .ensures)
 
 pub take-words-spec : {M : Type 1} → statement M
 take-words-spec =

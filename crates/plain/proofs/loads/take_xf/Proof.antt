@@ -69,8 +69,11 @@ returns-4 c = record { any = λ _ _ _. moves-none }
 
 take-words-requires : tie.Need-take-words-requires
 take-words-requires c κs =
-    let b = c .before .before .before .before .before .before .before .before in
-    head-of _ _ (b .before .before .before .if1 .left) (b .if3 .left) _ _ (ap (λ (x : ℕ). x % 16 + 1) (c .before .before .before .before .before .half .ensures)) (c .before .before .half2 .ensures)
+    let c5 = c .before .before .before .before .before in
+    let c8 = c5 .before .before .before in
+    let b = c8 in
+    head-of _ _ (b .before .before .before .if1 .left) (b .if3 .left) _ _ (ap (λ (x : ℕ). x % 16 + 1) (c5 .half .ensures))
+    (c .before .before .half2 .ensures)
     (c .before .if4 .left)
 
 same-length : tie.Need-same-length

@@ -1,5 +1,5 @@
 -- `plain::skim` meets its contract: zeros up to this place, and so many more where the bits of all of them are none.
-use Prim.Native.Nat.{ℕ, _-_, _≤_}
+use Prim.Native.Nat.{_-_}
 use native.Mathlib.Omega.{arith}
 use borrow.Author.Needs.{needs}
 use Rattle.plain.specs.Inner.{Zeros}

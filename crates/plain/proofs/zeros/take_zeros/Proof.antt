@@ -1,5 +1,4 @@
 -- `plain::take_zeros` meets its contract: three times past zeros is past zeros, and each of them is a unit.
-use native.Mathlib.Omega.{arith}
 use Rattle.walk.proofs.Walks.{moves-none}
 use Rattle.plain.proofs.Idle.{zeros-then, zeros-on}
 use borrow.Author.Needs.{needs}
@@ -29,8 +28,10 @@ cast-t10 c = search needs
 
 returns-2 : tie.Need-returns-2
 returns-2 c =
-    let e = c .before .before .before .end-of .ensures in
-    zeros-on (zeros-then (c .before .before .skim .ensures) (zeros-then (c .before .skim2 .ensures) (c .skim3 .ensures))) (e .1 .0) (e .1 .1)
+    let c3 = c .before .before .before in
+    let e = c3 .end-of .ensures in
+    zeros-on (zeros-then (c .before .before .skim .ensures) (zeros-then (c .before .skim2 .ensures) (c .skim3 .ensures))) (e .1 .0)
+    (e .1 .1)
 
 pub take-zeros-spec : {M : Type 1} → statement M
 take-zeros-spec =

@@ -12,7 +12,7 @@ minus-requires c κs = search needs
 
 returns : tie.Need-returns
 unfolding straightBy
-returns c = 
+returns c =
     let k = c .before .before .before .args .cursor in
     let h : k .left ≤ k .size - k .at = omega (arith, c .before .before .minus .ensures) in
     let g : k .left ≤ k .left = omega arith in
@@ -20,7 +20,7 @@ returns c =
 
 returns-2 : tie.Need-returns-2
 unfolding straightBy
-returns-2 c = 
+returns-2 c =
     let k = c .before .before .before .args .cursor in
     let m = c .before .before .minus in
     let h : m .result ≤ k .left = omega arith in

@@ -47,9 +47,11 @@ same-length-2 : tie.Need-same-length-2
 same-length-2 c = search needs
 
 returns-2 : tie.Need-returns-2
-returns-2 c = 
-    let b = c .before .before .before .before .before .before .before .before .before .before .before .before in
-    stretch-some _ _ _ (b .before .before .reach .ensures) (b .if1 .left) (c .before .before .before .before .before .before .take-straight .ensures) (c .skip2 .ensures)
+returns-2 c =
+    let c6 = c .before .before .before .before .before .before in
+    let c12 = c6 .before .before .before .before .before .before in
+    let b = c12 in
+    stretch-some _ _ _ (b .before .before .reach .ensures) (b .if1 .left) (c6 .take-straight .ensures) (c .skip2 .ensures)
 
 pub take-stretch-spec : {M : Type 1} → statement M
 take-stretch-spec =

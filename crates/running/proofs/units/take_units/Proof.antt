@@ -28,7 +28,8 @@ abbrev μ-loop : tie.MeasureT-loop
 μ-loop fifo ring cp₀ bp₀ xf₀ buffer₀ limit cursor₀ draw₀ units₀ cp bp xf buffer cursor draw units = limit - units
 
 -- an answer whose tag is that of `Waiting` or of `Refused` is no unit
-not-done : (a : StepAnswer) → (tagOf Answers.the-type a ≡ 1) ⊎ (tagOf Answers.the-type a ≡ 2) → (c : List ℕ) (m n : ℕ) → meaning a ≡ unit c m n → ⊥
+not-done : (a : StepAnswer) → (tagOf Answers.the-type a ≡ 1) ⊎ (tagOf Answers.the-type a ≡ 2) → (c : List ℕ) (m n : ℕ)
+    → meaning a ≡ unit c m n → ⊥
 not-done (Done d m l) (inl h) c k n e = omega arith
 not-done (Done d m l) (inr h) c k n e = omega arith
 not-done (Waiting j) h c k n e = let z : _≡_ {A = ℕ} 0 1 = cc in omega arith
@@ -45,16 +46,21 @@ octets : (l : tie.At-loop Inv-loop μ-loop) → Octets (start-of l .args .ring .
 octets l k = l .before .before .before .before .shared-slice-known .given k .fits
 
 -- the stretch was within the limit
-few : (a : tie.After-take-stretch Inv-loop μ-loop) → a .take-stretch .result .units ≤ start-of (loop-of a) .args .limit - loop-of a .loop .units
+few : (a : tie.After-take-stretch Inv-loop μ-loop) → a .take-stretch .result .units ≤ start-of
+    (loop-of a) .args .limit - loop-of a .loop .units
 few a = a .take-stretch .ensures .taken .within
 
 -- the run after a stretch
 gone : (a : tie.After-take-stretch Inv-loop μ-loop) → let l = loop-of a in
     let s = start-of l .args in
     let z = a .take-stretch .last in
-    Course (s .ring .now) (s .limit) (stateOf (s .fifo) (s .cp .now) (s .bp .now) (s .first) (s .xf .now) (s .buffer .now)) (a .take-stretch .result .cursor)
-    (z .1 .1 .0) (z .1 .1 .1 .0) (a .take-stretch .result .draw) (z .1 .1 .1 .1 .1 .0) (z .1 .1 .1 .1 .1 .1 .0) (l .loop .units + a .take-stretch .result .units)
-gone a = course-stretch _ (octets (loop-of a)) (loop-of a .loop .inv .1 .1) (a .take-stretch .ensures) (omega (arith, loop-of a .loop .inv .1 .1 .within))
+    Course (s .ring .now) (s .limit) (stateOf (s .fifo) (s .cp .now) (s .bp .now) (s .first) (s .xf .now) (s .buffer .now))
+    (a .take-stretch .result .cursor)
+    (z .1 .1 .0) (z .1 .1 .1 .0) (a .take-stretch .result .draw) (z .1 .1 .1 .1 .1 .0) (z .1 .1 .1 .1 .1 .1 .0)
+    (l .loop .units + a .take-stretch .result .units)
+gone a =
+    course-stretch _ (octets (loop-of a)) (loop-of a .loop .inv .1 .1) (a .take-stretch .ensures)
+    (omega (arith, loop-of a .loop .inv .1 .1 .within))
 
 open-requires : tie.Need-open-requires Inv-loop μ-loop
 open-requires c κs = search needs
@@ -72,7 +78,9 @@ take-stretch-requires : tie.Need-take-stretch-requires Inv-loop μ-loop
 take-stretch-requires c κs = search needs
 
 add-units : tie.Need-add-units Inv-loop μ-loop
-add-units c = omega (arith, few (c .before .before .before .before .before .before), start-of (loop-of (c .before .before .before .before .before .before)) .fits .limit)
+add-units c =
+    let c6 = c .before .before .before .before .before .before in
+    omega (arith, few (c6), start-of (loop-of (c6)) .fits .limit)
 
 close-requires : tie.Need-close-requires Inv-loop μ-loop
 close-requires c κs = search needs
@@ -84,7 +92,9 @@ same-length-2 : tie.Need-same-length-2 Inv-loop μ-loop
 same-length-2 c = search needs
 
 returns : tie.Need-returns Inv-loop μ-loop
-returns c = course-ends (start-of (loop-of (c .before .before .before .before .before .before .before .before)) .pre) (gone (c .before .before .before .before .before .before .before .before)) (c .before .if1 .taken) (c .close .ensures)
+returns c =
+    let c8 = c .before .before .before .before .before .before .before .before in
+    course-ends (start-of (loop-of (c8)) .pre) (gone (c8)) (c .before .if1 .taken) (c .close .ensures)
 
 take-at-requires : tie.Need-take-at-requires Inv-loop μ-loop
 take-at-requires c κs = search needs
@@ -99,33 +109,60 @@ stop-for-requires : tie.Need-stop-for-requires Inv-loop μ-loop
 stop-for-requires c κs = search needs
 
 same-length-3 : tie.Need-same-length-3 Inv-loop μ-loop
-same-length-3 c = search (needs, c .before .before .before .before .before .before .before .before .before .before .before .before .before .before .before .before .before .before .before .before .before .before .before .before .loop .inv .0, c .before .before .before .before .before .before .before .before .before .before .before .before .before .before .before .before .before .before .xf, c .before .before .before .before .before .before .xf2)
+same-length-3 c =
+    let c6 = c .before .before .before .before .before .before in
+    let c18 = c6 .before .before .before .before .before .before .before .before .before .before .before .before in
+    let c24 = c18 .before .before .before .before .before .before in
+    search (needs, c24 .loop .inv .0, c18 .xf, c6 .xf2)
 
 same-length-4 : tie.Need-same-length-4 Inv-loop μ-loop
-same-length-4 c = search (needs, c .before .before .before .before .before .before .before .before .before .before .before .before .before .before .before .before .before .before .before .before .before .before .before .before .loop .inv .1 .0, c .before .before .before .before .before .before .before .before .before .before .before .before .before .before .before .before .buffer, c .before .before .before .before .buffer2)
+same-length-4 c =
+    let c4 = c .before .before .before .before in
+    let c16 = c4 .before .before .before .before .before .before .before .before .before .before .before .before in
+    let c24 = c16 .before .before .before .before .before .before .before .before in
+    search (needs, c24 .loop .inv .1 .0, c16 .buffer, c4 .buffer2)
 
 returns-2 : tie.Need-returns-2 Inv-loop μ-loop
 returns-2 c =
-    let a = c .before .before .before .before .before .before .before .before .before .before .before .before .before .before .before .before .before .before .before in
+    let c7 = c .before .before .before .before .before .before .before in
+    let c12 = c7 .before .before .before .before .before in
+    let c19 = c12 .before .before .before .before .before .before .before in
+    let a = c19 in
     let l = loop-of a in
-    course-stops _ (octets l) (gone a) (c .before .before .before .before .before .before .before .before .before .before .before .before .if1 .left) (takes-course (gone a) (c .before .before .before .before .before .before .before .take-at .ensures))
-    (not-done (c .before .before .before .before .before .before .before .take-at .result .answer) (c .before .before .match .keys2)) (c .stop-for .ensures) (c .before .close2 .ensures) (start-of l .pre)
+    course-stops _ (octets l) (gone a) (c12 .if1 .left) (takes-course (gone a) (c7 .take-at .ensures))
+    (not-done (c7 .take-at .result .answer) (c .before .before .match .keys2)) (c .stop-for .ensures) (c .before .close2 .ensures)
+    (start-of l .pre)
 
 add-units-2 : tie.Need-add-units-2 Inv-loop μ-loop
-add-units-2 c = omega (arith, c .before .before .before .before .before .before .before .before .before .before .before .if1 .left, start-of (loop-of (c .before .before .before .before .before .before .before .before .before .before .before .before .before .before .before .before .before .before)) .fits .limit)
+add-units-2 c =
+    let c11 = c .before .before .before .before .before .before .before .before .before .before .before in
+    let c18 = c11 .before .before .before .before .before .before .before in
+    omega (arith, c11 .if1 .left, start-of (loop-of (c18)) .fits .limit)
 
 loop-less : tie.Need-loop-less Inv-loop μ-loop
-loop-less c = omega (arith, few (c .before .before .before .before .before .before .before .before .before .before .before .before .before .before .before .before .before .before .before), c .before .before .before .before .before .before .before .before .before .before .before .before .if1 .left)
+loop-less c =
+    let c12 = c .before .before .before .before .before .before .before .before .before .before .before .before in
+    let c19 = c12 .before .before .before .before .before .before .before in
+    omega (arith, few (c19), c12 .if1 .left)
 
 loop-again : tie.Need-loop-again Inv-loop μ-loop
-loop-again c = (
-  search (needs, c .before .before .before .before .before .before .before .before .before .before .before .before .before .before .before .before .before .before .before .before .before .before .before .before .loop .inv .0, c .before .before .before .before .before .before .before .before .before .before .before .before .before .before .before .before .before .before .xf, c .before .before .before .before .before .before .xf2),
-  (
-    search (needs, c .before .before .before .before .before .before .before .before .before .before .before .before .before .before .before .before .before .before .before .before .before .before .before .before .loop .inv .1 .0, c .before .before .before .before .before .before .before .before .before .before .before .before .before .before .before .before .buffer, c .before .before .before .before .buffer2),
-    let a = c .before .before .before .before .before .before .before .before .before .before .before .before .before .before .before .before .before .before .before in
-        course-goes _ (octets (loop-of a)) (gone a) (c .before .before .before .before .before .before .before .before .before .before .before .before .if1 .left) (takes-course (gone a) (c .before .before .before .before .before .before .before .take-at .ensures)) _ _ _ (ap meaning (c .before .enum-told .given .1)),
-  ),
-)
+loop-again c =
+    let c4 = c .before .before .before .before in
+    let c6 = c4 .before .before in
+    let c7 = c6 .before in
+    let c12 = c7 .before .before .before .before .before in
+    let c16 = c12 .before .before .before .before in
+    let c18 = c16 .before .before in
+    let c19 = c18 .before in
+    let c24 = c19 .before .before .before .before .before in (
+      search (needs, c24 .loop .inv .0, c18 .xf, c6 .xf2),
+      (
+        search (needs, c24 .loop .inv .1 .0, c16 .buffer, c4 .buffer2),
+        let a = c19 in
+            course-goes _ (octets (loop-of a)) (gone a) (c12 .if1 .left) (takes-course (gone a) (c7 .take-at .ensures)) _ _ _
+            (ap meaning (c .before .enum-told .given .1)),
+      ),
+    )
 
 pub take-units-spec : {M : Type 1} → statement M
 take-units-spec =
