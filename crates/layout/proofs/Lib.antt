@@ -2,6 +2,9 @@ pub mod Tests
 pub mod Bounds
 pub mod Meanings
 pub mod Ignored
+pub mod Modes
 pub mod Present
-pub mod Tables
+pub mod Packed
+pub mod Weighed
+pub mod Sums
 pub mod Normals

@@ -14,11 +14,11 @@ use Rattle.refusal.proofs.Positive.{number-some}
 use Rattle.layout.specs.declared.Descriptor.{Descriptor}
 use Rattle.layout.specs.declared.Layout.{Layout}
 use Rattle.layout.specs.declared.Extent.{Extent}
-use Rattle.layout.specs.declared.measuring.Sums.{Sums}
 use Rattle.layout.specs.declared.LayoutAnswer.{LayoutAnswer}
 use Rattle.layout.specs.declared.LayoutAnswer.the-variants.{Accepted, Refused}
 use Rattle.layout.specs.Fields.{modeOf}
-use Rattle.layout.specs.Answers.{meaning, refusalOf, lengthOf, Laid, Filled, Emptied, Measured, MeasuredAs, Tallied}
+use Rattle.layout.specs.Sizes.{offsetOf, anyUnknown}
+use Rattle.layout.specs.Answers.{meaning, refusalOf, lengthOf, Laid, Filled, Emptied, Measured, MeasuredAs}
 
 -- ---- a length alone
 length-by : (a b : Bool) (n : ℕ) → cond a 0 (cond b 0 n) ≡ cond (eqb (cond a 9 (cond b 10 0)) 0) n 0
@@ -26,14 +26,27 @@ length-by true b n = refl
 length-by false true n = refl
 length-by false false n = refl
 
-pub measured : (d : Descriptor) (mode : ℕ) (s : Sums) (r : Extent) → mode ≡ modeOf d 9 → Tallied d s
-    → MeasuredAs (cond (eqb mode 0) 9 (cond (s .unknown) 10 0)) (cond (eqb mode 0) 0 (cond (s .unknown) 0 (s .total))) r → Measured d r
+pub measured : (d : Descriptor) (mode n : ℕ) (found : Bool) (r : Extent) → mode ≡ modeOf d 9 → found ≡ anyUnknown d 21 → n ≡ offsetOf d 21
+    → MeasuredAs (cond (eqb mode 0) 9 (cond found 10 0)) (cond (eqb mode 0) 0 (cond found 0 n)) r → Measured d r
 unfolding refusalOf lengthOf
-measured d mode s r m t e =
+measured d mode n found r m f l e =
     record {
-      answer-is = rw (m, t .unknown-is) at (e .answer-is);
-      length-is = rw (m, t .unknown-is, t .total-is, length-by) at (e .length-is);
+      answer-is = rw (m, f) at (e .answer-is);
+      length-is = rw (m, f, l, length-by) at (e .length-is);
     }
+
+-- ---- which refusal
+pub refused-absent : (d : Descriptor) → modeOf d 9 ≡ 0 → refusalOf d ≡ 9
+unfolding refusalOf
+refused-absent d e = rw (eq-eqb (modeOf d 9) 0 e)
+
+pub refused-unknown : (d : Descriptor) → (modeOf d 9 ≡ 0 → ⊥) → anyUnknown d 21 ≡ true → refusalOf d ≡ 10
+unfolding refusalOf
+refused-unknown d n e = rw (ne-eqb (modeOf d 9) 0 n, e)
+
+pub accepted : (d : Descriptor) → (modeOf d 9 ≡ 0 → ⊥) → anyUnknown d 21 ≡ false → refusalOf d ≡ 0
+unfolding refusalOf
+accepted d n e = rw (ne-eqb (modeOf d 9) 0 n, e)
 
 -- ---- the whole layout
 pub laid-filled : (d : Descriptor) (r : Layout) → refusalOf d ≡ 0 → Filled d r → Laid d r

@@ -1,36 +1,65 @@
 -- Attributes whose bits of the VCD are clear: they are absent, and neither the sums nor the search for an unknown format change at them.
+-- Matrices are counted by their bits.
 use mathlib.Core.Path.{_≡_, refl, sym, ap, _∙_}
 use mathlib.Core.Bool.{Bool, true, false, cond, _||_}
-use Prim.Native.Nat.{ℕ, zero, suc, _+_, _-_, _/_, _%_, _^_, _<_, _≤_}
-use native.Mathlib.Nat.{zero-div, zero-mod, add-zero}
-use native.Mathlib.Omega.{arith}
-use lib.Dec.{T, leb, ltb, eqb}
-use lib.ListN.{getD}
-use borrow.Author.Tests.{lt-ltb, le-ltb, leb-true, eqb-true, ne-eqb}
 use mathlib.Core.Logic.{⊎-elim}
+use Prim.Native.Nat.{ℕ, zero, suc, _+_, _-_, _*_, _/_, _%_, _^_, _<_, _≤_}
+use native.Mathlib.Nat.{one-mul, zero-div, zero-mod, mod-lt, mod-one, add-comm}
+use native.Mathlib.Numerals.{one-add}
+use native.Mathlib.Omega.{arith}
+use lib.Dec.{leb, ltb, eqb, lit<}
+use lib.ListN.{getD}
+use lib.Pow.{shl-exact, shr-shr, mod-pow-add, pow-pos}
+use lib.Count.{ones, ones-cat}
+use borrow.Author.Tests.{lt-ltb, eqb-true, ne-eqb}
 use Rattle.laws.proofs.Cases.{order}
-use Rattle.laws.proofs.Table.{at, both, both-left, both-right}
+use Rattle.laws.proofs.Table.{at}
 use Rattle.layout.specs.declared.Descriptor.{Descriptor}
-use Rattle.layout.specs.Fields.{bitsAt, modes, formats, modeOf, formatOf}
-use Rattle.layout.specs.Sizes.{sizeOf, offsetOf, unknownAt, anyUnknown, NoneFrom}
+use Rattle.layout.specs.Fields.{bitsAt, formats, modeOf, formatOf}
+use Rattle.layout.specs.Sizes.{sizeOf, offsetOf, unknownAt, anyUnknown}
+use Rattle.layout.specs.Inner.{AbsentFrom}
 use Rattle.layout.proofs.Tests.{size-matrix, size-absent, unknown-absent}
 use Rattle.layout.proofs.Ignored.{low-bits, is-true}
+use Rattle.layout.proofs.Modes.{matrix-mode, fore-mode, texture-mode}
 
 -- bits below t are clear where all of them are
 clear : (x t s w : ℕ) → s + w ≤ t → x % 2 ^ t ≡ 0 → x / 2 ^ s % 2 ^ w ≡ 0
 clear x t s w h e =
     sym (low-bits x t s w h) ∙ ap (λ (y : ℕ). y / 2 ^ s % 2 ^ w) e ∙ ap (λ (y : ℕ). y % 2 ^ w) (zero-div (2 ^ s)) ∙ zero-mod (2 ^ w)
 
+-- two bits of t from s on
+clear-two : (x s t p : ℕ) → x / 2 ^ s % 2 ^ t ≡ 0 → s ≤ p → p + 2 ≤ s + t → x / 2 ^ p % 4 ≡ 0
+clear-two x s t p e l h =
+    let same : p ≡ s + (p - s) = omega arith in
+    ap (λ (y : ℕ). x / 2 ^ y % 4) same ∙ ap (λ (y : ℕ). y % 4) (sym (shr-shr x s (p - s)))
+    ∙ clear (x / 2 ^ s) t (p - s) 2 (omega arith) e
+
+-- one bit of a word
+pub one-bit : (k : ℕ) → k ≤ 9 → 1 * 2 ^ k % 4294967296 ≡ 2 ^ k
+one-bit k h = shl-exact {a = 1} 1 k 32 (lit< tt) (omega arith) ∙ one-mul (2 ^ k)
+
+-- a digit is its own count
+ones-digit : (b : ℕ) → b < 2 → ones b ≡ b
+unfolding ones
+ones-digit zero h = refl
+ones-digit (suc zero) h = refl
+ones-digit (suc (suc b)) h = absurd (omega arith)
+
+-- the set bits below k + 1
+ones-next : (x k : ℕ) → ones (x % 2 ^ suc k) ≡ ones (x % 2 ^ k) + x / 2 ^ k % 2
+ones-next x k =
+    ap (λ (y : ℕ). ones (x % 2 ^ y)) (sym (one-add k))
+    ∙ ap ones (mod-pow-add x 1 k)
+    ∙ ones-cat k (x / 2 ^ k % 2) (x % 2 ^ k) (mod-lt x (pow-pos k))
+    ∙ ap (λ (y : ℕ). y + ones (x % 2 ^ k)) (ones-digit (x / 2 ^ k % 2) (mod-lt (x / 2 ^ k) (lit< tt)))
+    ∙ add-comm (x / 2 ^ k % 2) (ones (x % 2 ^ k))
+
 module _ (d : Descriptor) where
   -- ---- an absent attribute
 
   -- it has no bytes, a matrix or not
-  size-none : (k : ℕ) → modeOf d k ≡ 0 → sizeOf d k ≡ 0
+  pub size-none : (k : ℕ) → modeOf d k ≡ 0 → sizeOf d k ≡ 0
   size-none k m = ⊎-elim (λ h. size-matrix d k h ∙ m) (λ h. size-absent d k h m) (order k 9)
-
-  pub sum-absent : (k : ℕ) → modeOf d k ≡ 0 → offsetOf d (suc k) ≡ offsetOf d k
-  unfolding offsetOf
-  sum-absent k m = rw (size-none k m) (add-zero (offsetOf d k))
 
   or-false : (b : Bool) → (b || false) ≡ b
   or-false true = refl
@@ -41,23 +70,13 @@ module _ (d : Descriptor) where
   any-absent k m = rw (unknown-absent d k m) (or-false (anyUnknown d k))
 
   -- ---- the nine matrices
-  matrix-absent : d .vcd0 % 2 ^ 9 ≡ 0 → (k : ℕ) → k < 9 → modeOf d k ≡ 0
-  unfolding modeOf bitsAt modes
-  matrix-absent e k h =
-      let p : ℕ = getD modes k 0 in
-      let l : p + 1 ≤ 9 = leb-true (p + 1) 9 (is-true _ (at (λ i. leb (getD modes i 0 + 1) 9) 9 tt k h)) in
-      let below : k < 21 = omega arith in
-      let z : p / 32 ≡ 0 = omega arith in
-      let r : p % 32 ≡ p = omega arith in
-      rw (lt-ltb k 9 h, lt-ltb k 21 below, z, r) (clear (d .vcd0) 9 p 1 l e)
-
-  before : ((k : ℕ) → k < 9 → modeOf d k ≡ 0) → (n : ℕ) → n ≤ 9 → offsetOf d n ≡ 0
-  unfolding offsetOf
-  before a zero h = refl
-  before a (suc n) h = sum-absent n (a n h) ∙ before a n (omega arith)
-
-  pub no-matrices : d .vcd0 % 2 ^ 9 ≡ 0 → 0 ≡ offsetOf d 9
-  no-matrices e = sym (before (matrix-absent e) 9 (omega arith))
+  pub matrices-are : (k : ℕ) → k ≤ 9 → ones (d .vcd0 % 2 ^ k) ≡ offsetOf d k
+  unfolding offsetOf ones
+  matrices-are zero h = ap ones (mod-one (d .vcd0))
+  matrices-are (suc k) h =
+      ones-next (d .vcd0) k
+      ∙ ap (λ (y : ℕ). y + d .vcd0 / 2 ^ k % 2) (matrices-are k (omega arith))
+      ∙ ap (λ (y : ℕ). offsetOf d k + y) (sym (size-matrix d k (omega arith) ∙ matrix-mode d k (omega arith)))
 
   -- a matrix has no format that could be unknown
   matrix-format : (k : ℕ) → k < 9 → formatOf d k ≡ 0
@@ -83,36 +102,15 @@ module _ (d : Descriptor) where
   known zero h = refl
   known (suc n) h = rw (known n (omega arith), matrix-known n h)
 
-  pub matrices-known : false ≡ anyUnknown d 9
-  matrices-known = sym (known 9 (omega arith))
+  pub matrices-known : anyUnknown d 9 ≡ false
+  matrices-known = known 9 (omega arith)
 
-  -- ---- the eight textures
-  texture-absent : d .vcd1 % 2 ^ 16 ≡ 0 → (k : ℕ) → 13 ≤ k → k < 21 → modeOf d k ≡ 0
-  unfolding modeOf bitsAt modes
-  texture-absent e k g h =
-      let p : ℕ = getD modes k 0 in
-      let t = at (λ i. cond (ltb i 13) true (both (leb 32 (getD modes i 0)) (leb (getD modes i 0 + 2) 48))) 21 tt k h in
-      let u : T (both (leb 32 p) (leb (p + 2) 48)) = rw (le-ltb k 13 g) at t in
-      let l : 32 ≤ p = leb-true 32 p (is-true _ (both-left (leb 32 p) (leb (p + 2) 48) u)) in
-      let m : p + 2 ≤ 48 = leb-true (p + 2) 48 (is-true _ (both-right (leb 32 p) (leb (p + 2) 48) u)) in
-      let nine : 9 ≤ k = omega arith in
-      let z : p / 32 ≡ 1 = omega arith in
-      let r : p % 32 ≡ p - 32 = omega arith in
-      rw (le-ltb k 9 nine, lt-ltb k 21 h, z, r) (clear (d .vcd1) 16 (p - 32) 2 (omega arith) e)
+  -- ---- the normal and the colours
+  pub fore-absent : d .vcd0 / 2 ^ 11 % 2 ^ 6 ≡ 0 → (k : ℕ) → 10 ≤ k → k < 13 → modeOf d k ≡ 0
+  fore-absent e k g h = fore-mode d k (omega arith) h ∙ clear-two (d .vcd0) 11 6 (2 * k - 9) e (omega arith) (omega arith)
 
-  from : ((k : ℕ) → 13 ≤ k → k < 21 → modeOf d k ≡ 0) → (n : ℕ) → n ≤ 8
-      → (offsetOf d (n + 13) ≡ offsetOf d 13) × (anyUnknown d (n + 13) ≡ anyUnknown d 13)
-  from a zero h = (refl, refl)
-  from a (suc n) h =
-      let i = from a n (omega arith) in
-      let m = a (n + 13) (omega arith) (omega arith) in
-      let e : suc n + 13 ≡ suc (n + 13) = omega arith in
-      (rw e (sum-absent (n + 13) m ∙ i .0), rw e (any-absent (n + 13) m ∙ i .1))
-
-  pub none-from : d .vcd1 % 2 ^ 16 ≡ 0 → NoneFrom d 13
-  none-from e =
-      let f = from (texture-absent e) 8 (omega arith) in
-      record { least = omega arith; most = omega arith; sum-is = f .0; unknown-is = f .1 }
-
-  pub none-from-last : NoneFrom d 21
-  none-from-last = record { least = omega arith; most = omega arith; sum-is = refl; unknown-is = refl }
+  -- ---- the textures past the first
+  pub textures-absent : d .vcd1 / 2 ^ 2 % 2 ^ 14 ≡ 0 → AbsentFrom d 14
+  textures-absent e = record {
+    absent = λ k l h. texture-mode d k (omega arith) h ∙ clear-two (d .vcd1) 2 14 (2 * k - 26) e (omega arith) (omega arith);
+  }

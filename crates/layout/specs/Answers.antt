@@ -12,11 +12,9 @@ use Rattle.layout.specs.declared.Descriptor.{Descriptor}
 use Rattle.layout.specs.declared.Layout.{Layout}
 use Rattle.layout.specs.declared.LayoutAnswer.{LayoutAnswer}
 use Rattle.layout.specs.declared.Extent.{Extent}
-use Rattle.layout.specs.declared.measuring.Part.{Part}
-use Rattle.layout.specs.declared.measuring.Sums.{Sums}
 use Rattle.layout.specs.declared.LayoutAnswer.the-variants.{Accepted, Refused}
 use Rattle.layout.specs.Fields.{modeOf}
-use Rattle.layout.specs.Sizes.{sizeOf, offsetOf, unknownAt, anyUnknown}
+use Rattle.layout.specs.Sizes.{sizeOf, offsetOf, anyUnknown}
 
 -- the numbers of a layout's answer: the refusal's alone, or 0
 abbrev pub meaning : LayoutAnswer → List ℕ
@@ -64,13 +62,3 @@ pub record MeasuredAs (refusal length : ℕ) (r : Extent) : Type 0 where
 -- what `measure` promises: the answer and the length of the layout
 abbrev pub Measured : Descriptor → Extent → Type 0
 Measured d r = MeasuredAs (refusalOf d) (lengthOf d) r
-
--- what one attribute adds
-pub record Weighed (d : Descriptor) (k : ℕ) (r : Part) : Type 0 where
-  pub bytes-are : r .bytes ≡ sizeOf d k
-  pub unknown-is : r .unknown ≡ unknownAt d k
-
--- the bytes of all attributes, and whether one is in an unknown format
-pub record Tallied (d : Descriptor) (r : Sums) : Type 0 where
-  pub total-is : r .total ≡ offsetOf d 21
-  pub unknown-is : r .unknown ≡ anyUnknown d 21

@@ -1,7 +1,6 @@
 -- The bytes of each attribute, and which formats are none.
 use mathlib.Core.Bool.{Bool, false, cond, _||_}
-use mathlib.Core.Path.{_≡_}
-use Prim.Native.Nat.{ℕ, zero, suc, _+_, _-_, _*_, _%_, _≤_}
+use Prim.Native.Nat.{ℕ, zero, suc, _+_, _-_, _*_, _%_}
 use lib.Dec.{leb, ltb, eqb}
 use Rattle.component.specs.Component.{widthOf}
 use Rattle.layout.specs.declared.Descriptor.{Descriptor}
@@ -54,12 +53,3 @@ unknownAt d k = cond (eqb (modeOf d k) 0) false (leb (cond (isColour k) 6 5) (fo
 unfoldable pub anyUnknown : Descriptor → ℕ → Bool
 anyUnknown d zero = false
 anyUnknown d (suc n) = anyUnknown d n || unknownAt d n
-
--- ---- for the code's own functions: attributes that need no look
-
--- no attribute from k on is present
-pub record NoneFrom (d : Descriptor) (k : ℕ) : Type 0 where
-  pub least : 9 ≤ k
-  pub most : k ≤ 21
-  pub sum-is : offsetOf d 21 ≡ offsetOf d k
-  pub unknown-is : anyUnknown d 21 ≡ anyUnknown d k

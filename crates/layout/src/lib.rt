@@ -1,19 +1,20 @@
 // The layout of a vertex: the bytes and the place of each of its 21 attributes, as document 01's "Vertex layout" and source document 004's
 // tables of the VCD and the VAT give them.
 mod measuring;
-mod places;
+mod parts;
 
+pub use measuring::find;
 pub use measuring::measure;
+use parts::Fore;
+use parts::Textures;
 use refusal::Reason;
 ghost use mathlib.Core.Path.{_≡_};
-ghost use mathlib.Core.Bool.{cond};
-ghost use lib.Dec.{leb};
-ghost use Prim.Native.Nat.{_<_};
-ghost use lib.ListN.{getD};
-ghost use Rattle.layout.specs.Fields.{words, bitsAt, modeOf, countOf, formatOf, normalBits};
-ghost use Rattle.layout.specs.Fields.{fractionBits, fractionOf, indicesOf, fieldOf};
-ghost use Rattle.layout.specs.Sizes.{isColour, colourWidth, componentsOf, directOf, sizeOf};
+ghost use Prim.Native.Nat.{_%_};
+ghost use Rattle.laws.specs.Values.{upTo};
+ghost use Rattle.layout.specs.Fields.{modeOf, normalBits, fractionBits, indicesOf, fieldOf};
+ghost use Rattle.layout.specs.Sizes.{isColour, colourWidth, componentsOf, sizeOf};
 ghost use Rattle.layout.specs.Answers.{Laid, Filled, Emptied};
+ghost use Rattle.layout.specs.Inner.{vatOf, ForeOf, TexturesOf};
 
 // What names a vertex's attributes and their formats: the two words of the VCD, and the three of the VAT in use.
 pub struct Descriptor {
@@ -52,48 +53,69 @@ pub struct Extent {
     pub length: u32,
 }
 
-// The word of a number, 0 where there is none.
-fn word(d: Descriptor, i: u32) -> u32
-    ensures { λ r. ⌜ r ≡ getD (words d) i 0 ⌝ }
-{
-    match i {
-        0 => d.vcd0,
-        1 => d.vcd1,
-        2 => d.vat0,
-        3 => d.vat1,
-        4 => d.vat2,
-        _ => 0,
-    }
+// The length of a vertex, and where one attribute starts in it.
+pub struct Spot {
+    pub answer: LayoutAnswer,
+    pub length: u32,
+    pub offset: u32,
 }
 
-// The bits from a place on, modulo q.
-fn bits(d: Descriptor, place: u32, q: u32) -> u32
-    requires { ⌜ 0 < q ⌝ }
-    ensures { λ r. ⌜ r ≡ bitsAt d place q ⌝ }
-{
-    (word(d, place / 32) >> (place % 32)) % q
+// The count bit, the format and the shift of an attribute, as the VAT has them.
+pub struct Vat {
+    pub count: u32,
+    pub format: u32,
+    pub shift: u32,
 }
 
+// How attribute k is present: one bit for a matrix, two for others.
 fn mode(d: Descriptor, k: usize) -> u32
     ensures { λ r. ⌜ r ≡ modeOf d k ⌝ }
 {
     if k < 9 {
-        bits(d, places::mode_place(k), 2)
-    } else {
-        bits(d, places::mode_place(k), 4)
+        return (d.vcd0 >> (k as u32)) % 2;
+    }
+    if k < 13 {
+        return (d.vcd0 >> (2 * k as u32 - 9)) % 4;
+    }
+    if k < 21 {
+        return (d.vcd1 >> (2 * k as u32 - 26)) % 4;
+    }
+    0
+}
+
+// A field of the VAT at its places: the count bit, the three bits of the format and the five of the shift.
+fn vat_at(count: u32, format: u32, shift: u32) -> Vat
+    ensures { λ r. ⌜ r ≡ record { count = count % 2; format = format % 8; shift = shift % 32 } ⌝ }
+{
+    Vat {
+        count: count % 2,
+        format: format % 8,
+        shift: shift % 32,
     }
 }
 
-fn count(d: Descriptor, k: usize) -> u32
-    ensures { λ r. ⌜ r ≡ countOf d k ⌝ }
+// What the VAT says of attribute k; a matrix has none of its fields, and normals and colours have no shift.
+fn read_vat(d: Descriptor, k: usize) -> Vat
+    ensures { λ r. ⌜ r ≡ vatOf d k ⌝ }
 {
-    bits(d, places::count_place(k), 2)
-}
-
-fn format(d: Descriptor, k: usize) -> u32
-    ensures { λ r. ⌜ r ≡ formatOf d k ⌝ }
-{
-    bits(d, places::format_place(k), 8)
+    let a = d.vat0;
+    let b = d.vat1;
+    let c = d.vat2;
+    match k {
+        9 => vat_at(a >> 0, a >> 1, a >> 4),
+        10 => vat_at(a >> 9, a >> 10, 0),
+        11 => vat_at(a >> 13, a >> 14, 0),
+        12 => vat_at(a >> 17, a >> 18, 0),
+        13 => vat_at(a >> 21, a >> 22, a >> 25),
+        14 => vat_at(b >> 0, b >> 1, b >> 4),
+        15 => vat_at(b >> 9, b >> 10, b >> 13),
+        16 => vat_at(b >> 18, b >> 19, b >> 22),
+        17 => vat_at(b >> 27, b >> 28, c >> 0),
+        18 => vat_at(c >> 5, c >> 6, c >> 9),
+        19 => vat_at(c >> 14, c >> 15, c >> 18),
+        20 => vat_at(c >> 23, c >> 24, c >> 27),
+        _ => vat_at(0, 0, 0),
+    }
 }
 
 // The fraction bits of a normal's component, by its format (document 02, L2).
@@ -125,17 +147,6 @@ fn fraction_bits(k: usize, format: u32, bit30: u32, shift: u32) -> u32
     shift
 }
 
-fn fraction(d: Descriptor, k: usize) -> u32
-    ensures { λ r. ⌜ r ≡ fractionOf d k ⌝ }
-{
-    fraction_bits(
-        k,
-        format(d, k),
-        bits(d, 94, 2),
-        bits(d, places::shift_place(k), 32),
-    )
-}
-
 // Three indices for a normal whose count bit and group 0 bit 31 are both set.
 fn indices(d: Descriptor, k: usize) -> u32
     ensures { λ r. ⌜ r ≡ indicesOf d k ⌝ }
@@ -143,24 +154,19 @@ fn indices(d: Descriptor, k: usize) -> u32
     if k != 10 {
         return 1;
     }
-    if count(d, 10) != 1 {
-        return 1;
-    }
-    if bits(d, 95, 2) != 1 {
-        return 1;
-    }
-    3
+    parts::normal_indices(d.vat0)
 }
 
 // What the descriptor says of attribute k.
 pub fn read_field(d: Descriptor, k: usize) -> Field
     ensures { λ r. ⌜ r ≡ fieldOf d k ⌝ }
 {
+    let vat = read_vat(d, k);
     Field {
         mode: mode(d, k),
-        count: count(d, k),
-        format: format(d, k),
-        fraction: fraction(d, k),
+        count: vat.count,
+        format: vat.format,
+        fraction: fraction_bits(k, vat.format, (d.vat0 >> 30) % 2, vat.shift),
         indices: indices(d, k),
     }
 }
@@ -196,56 +202,48 @@ pub fn components(k: usize, count: u32) -> u32
     }
 }
 
-// The bytes of a direct attribute.
-fn direct(k: usize, count: u32, format: u32) -> u32
-    ensures { λ r. ⌜ r ≡ directOf k count format ⌝ }
+// The bytes of each attribute, of those that are no matrices as they were weighed.
+fn sizes(d: Descriptor, fore: Fore, textures: Textures) -> [u8; 21]
+    requires { ⌜ ForeOf d fore × TexturesOf d textures ⌝ }
+    ensures { λ r. ⌜ r ≡ upTo (sizeOf d) 21 ⌝ }
 {
-    if is_colour(k) {
-        return colour_width(format);
-    }
-    components(k, count) * component::width(format)
+    let vcd = d.vcd0;
+    [
+        ((vcd >> 0) % 2) as u8,
+        ((vcd >> 1) % 2) as u8,
+        ((vcd >> 2) % 2) as u8,
+        ((vcd >> 3) % 2) as u8,
+        ((vcd >> 4) % 2) as u8,
+        ((vcd >> 5) % 2) as u8,
+        ((vcd >> 6) % 2) as u8,
+        ((vcd >> 7) % 2) as u8,
+        ((vcd >> 8) % 2) as u8,
+        fore.position as u8,
+        fore.normal as u8,
+        fore.colour0 as u8,
+        fore.colour1 as u8,
+        fore.texture0 as u8,
+        textures.texture1 as u8,
+        textures.texture2 as u8,
+        textures.texture3 as u8,
+        textures.texture4 as u8,
+        textures.texture5 as u8,
+        textures.texture6 as u8,
+        textures.texture7 as u8,
+    ]
 }
 
-// The bytes of attribute k.
-fn size(d: Descriptor, k: usize) -> u32
-    ensures { λ r. ⌜ r ≡ sizeOf d k ⌝ }
-{
-    let m = mode(d, k);
-    if k < 9 {
-        return m;
-    }
-    if m == 0 {
-        return 0;
-    }
-    if m == 1 {
-        return direct(k, count(d, k), format(d, k));
-    }
-    indices(d, k) * (m - 1)
-}
-
-// Whether attribute k has no such format.
-fn unknown_format(k: usize, format: u32) -> bool
-    ensures { λ r. ⌜ r ≡ leb (cond (isColour k) 6 5) format ⌝ }
-{
-    if is_colour(k) {
-        return 6 <= format;
-    }
-    5 <= format
-}
-
-// The layout of a descriptor that is not refused.
-fn fill(d: Descriptor) -> Layout
+// The layout of a descriptor that is not refused, from the bytes of its attributes: the sums of those before each.
+fn fill(d: Descriptor, sizes: [u8; 21]) -> Layout
+    requires { ⌜ sizes ≡ upTo (sizeOf d) 21 ⌝ }
     ensures { λ r. ⌜ Filled d r ⌝ }
 {
-    let mut sizes = [0u8; 21];
     let mut offsets = [0u8; 21];
     let mut total: u32 = 0;
     let mut k: usize = 0;
     while k < 21 {
-        let n = size(d, k);
-        sizes[k] = n as u8;
         offsets[k] = total as u8;
-        total += n;
+        total += sizes[k] as u32;
         k += 1;
     }
     Layout {
@@ -271,10 +269,18 @@ fn refuse(reason: Reason) -> Layout
 pub fn lay_out(d: Descriptor) -> Layout
     ensures { λ r. ⌜ Laid d r ⌝ }
 {
-    let measured = measure(d);
-    let answer = measured.answer;
-    match answer {
-        LayoutAnswer::Refused(reason) => refuse(reason),
-        LayoutAnswer::Accepted => fill(d),
+    let vcd0 = d.vcd0;
+    let vcd1 = d.vcd1;
+    let vat0 = d.vat0;
+    let vat1 = d.vat1;
+    let vat2 = d.vat2;
+    let fore = parts::weigh_fore(vcd0, vcd1, vat0, vat1, vat2);
+    let textures = parts::weigh_textures(vcd0, vcd1, vat0, vat1, vat2, fore.unknown);
+    if (vcd0 >> 9) % 4 == 0 {
+        return refuse(Reason::PositionAbsent);
     }
+    if textures.unknown {
+        return refuse(Reason::UnknownFormat);
+    }
+    fill(d, sizes(d, fore, textures))
 }

@@ -1,99 +1,62 @@
-// The length of a vertex without its parts: only the attributes that can be present are looked at.
+// The length of a vertex without its parts, and where one attribute starts.
 use crate::Descriptor;
 use crate::Extent;
 use crate::LayoutAnswer;
-use crate::count;
-use crate::direct;
-use crate::format;
-use crate::indices;
-use crate::mode;
-use crate::unknown_format;
+use crate::Spot;
+use crate::parts;
+use crate::parts::Fore;
+use crate::parts::Textures;
 use refusal::Reason;
 ghost use mathlib.Core.Path.{_≡_};
 ghost use mathlib.Core.Bool.{cond};
 ghost use Prim.Native.Nat.{_≤_};
 ghost use Rattle.refusal.specs.Number.{number};
-ghost use Rattle.layout.specs.Sizes.{offsetOf, NoneFrom};
-ghost use Rattle.layout.specs.Answers.{Measured, MeasuredAs, Weighed, Tallied};
+ghost use Rattle.layout.specs.Sizes.{offsetOf};
+ghost use Rattle.layout.specs.Answers.{Measured, MeasuredAs};
+ghost use Rattle.layout.specs.Inner.{ForeOf, TexturesOf, SpotOf};
 
-// The bytes of all attributes, and whether one is present in a format that is none.
-pub struct Sums {
-    pub total: u32,
-    pub unknown: bool,
-}
-
-// What one attribute adds: its bytes, and whether it is present in a format that is none.
-pub struct Part {
-    pub bytes: u32,
-    pub unknown: bool,
-}
-
-// The bytes of the nine matrices; no matrix is present where the nine bits are clear.
-fn matrices(d: Descriptor) -> u32
-    ensures { λ r. ⌜ r ≡ offsetOf d 9 ⌝ }
+// The bytes of the first k matrices, one for each bit that is set.
+fn matrices(d: Descriptor, k: u32) -> u32
+    requires { ⌜ k ≤ 9 ⌝ }
+    ensures { λ r. ⌜ r ≡ offsetOf d k ⌝ }
 {
-    if d.vcd0 % 512 == 0 {
-        return 0;
-    }
-    let mut total: u32 = 0;
-    let mut k: usize = 0;
-    while k < 9 {
-        total += mode(d, k);
-        k += 1;
-    }
-    total
+    u32::count_ones(d.vcd0 % (1u32 << k))
 }
 
-// What attribute k adds, which is no matrix.
-fn weigh(d: Descriptor, k: usize) -> Part
-    requires { ⌜ 9 ≤ k ⌝ }
-    ensures { λ r. ⌜ Weighed d k r ⌝ }
+// The bytes before attribute k; before 21 they are all.
+fn before(d: Descriptor, k: usize, fore: Fore, textures: Textures) -> u32
+    requires { ⌜ ForeOf d fore × TexturesOf d textures ⌝ }
+    ensures { λ r. ⌜ (k ≤ 21 → r ≡ offsetOf d k) ⌝ }
 {
-    let m = mode(d, k);
-    if m == 0 {
-        return Part {
-            bytes: 0,
-            unknown: false,
-        };
+    if k < 9 {
+        return matrices(d, k as u32);
     }
-    let f = format(d, k);
-    let unknown = unknown_format(k, f);
-    if m == 1 {
-        return Part {
-            bytes: direct(k, count(d, k), f),
-            unknown,
-        };
-    }
-    Part {
-        bytes: indices(d, k) * (m - 1),
-        unknown,
-    }
-}
-
-// The attribute past the last to look at: no texture is present where the sixteen bits are clear.
-fn past_present(d: Descriptor) -> usize
-    ensures { λ r. ⌜ NoneFrom d r ⌝ }
-{
-    if d.vcd1 % 0x10000 == 0 { 13 } else { 21 }
-}
-
-// The bytes of all attributes, and whether one is present in a format that is none.
-fn tally(d: Descriptor) -> Sums
-    ensures { λ r. ⌜ Tallied d r ⌝ }
-{
-    let end = past_present(d);
-    let mut total = matrices(d);
-    let mut found = false;
-    let mut k: usize = 9;
-    while k < end {
-        let part = weigh(d, k);
-        total += part.bytes;
-        found = found | part.unknown;
-        k += 1;
-    }
-    Sums {
-        total,
-        unknown: found,
+    let at9 = matrices(d, 9);
+    let at10 = at9 + fore.position;
+    let at11 = at10 + fore.normal;
+    let at12 = at11 + fore.colour0;
+    let at13 = at12 + fore.colour1;
+    let at14 = at13 + fore.texture0;
+    let at15 = at14 + textures.texture1;
+    let at16 = at15 + textures.texture2;
+    let at17 = at16 + textures.texture3;
+    let at18 = at17 + textures.texture4;
+    let at19 = at18 + textures.texture5;
+    let at20 = at19 + textures.texture6;
+    match k {
+        9 => at9,
+        10 => at10,
+        11 => at11,
+        12 => at12,
+        13 => at13,
+        14 => at14,
+        15 => at15,
+        16 => at16,
+        17 => at17,
+        18 => at18,
+        19 => at19,
+        20 => at20,
+        _ => at20 + textures.texture7,
     }
 }
 
@@ -119,17 +82,51 @@ fn length_unless(absent: bool, first: Reason, unknown: bool, second: Reason, len
     }
 }
 
+// The length, of attributes that were weighed: refused by 9, then 10.
+fn measured(d: Descriptor, fore: Fore, textures: Textures) -> Extent
+    requires { ⌜ ForeOf d fore × TexturesOf d textures ⌝ }
+    ensures { λ r. ⌜ Measured d r ⌝ }
+{
+    let absent = (d.vcd0 >> 9) % 4 == 0;
+    length_unless(
+        absent,
+        Reason::PositionAbsent,
+        textures.unknown,
+        Reason::UnknownFormat,
+        before(d, 21, fore, textures),
+    )
+}
+
 // The length of a vertex, or the reason why it has none: 9, then 10.
 pub fn measure(d: Descriptor) -> Extent
     ensures { λ r. ⌜ Measured d r ⌝ }
 {
-    let tally = tally(d);
-    let absent = mode(d, 9) == 0;
-    length_unless(
-        absent,
-        Reason::PositionAbsent,
-        tally.unknown,
-        Reason::UnknownFormat,
-        tally.total,
-    )
+    let vcd0 = d.vcd0;
+    let vcd1 = d.vcd1;
+    let vat0 = d.vat0;
+    let vat1 = d.vat1;
+    let vat2 = d.vat2;
+    let fore = parts::weigh_fore(vcd0, vcd1, vat0, vat1, vat2);
+    let textures = parts::weigh_textures(vcd0, vcd1, vat0, vat1, vat2, fore.unknown);
+    measured(d, fore, textures)
+}
+
+// The length of a vertex and where attribute k starts in it, or the reason why it has none.
+pub fn find(d: Descriptor, k: usize) -> Spot
+    ensures { λ r. ⌜ SpotOf d k r ⌝ }
+{
+    let vcd0 = d.vcd0;
+    let vcd1 = d.vcd1;
+    let vat0 = d.vat0;
+    let vat1 = d.vat1;
+    let vat2 = d.vat2;
+    let fore = parts::weigh_fore(vcd0, vcd1, vat0, vat1, vat2);
+    let textures = parts::weigh_textures(vcd0, vcd1, vat0, vat1, vat2, fore.unknown);
+    let extent = measured(d, fore, textures);
+    let answer = extent.answer;
+    Spot {
+        answer,
+        length: extent.length,
+        offset: before(d, k, fore, textures),
+    }
 }

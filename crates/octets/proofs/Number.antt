@@ -11,29 +11,11 @@ use lib.Seq.{getD-drop}
 use Rattle.octets.specs.BigEndian.{bigEndian}
 pub use Rattle.octets.specs.BigEndian.{Octets}
 
--- ---- reading a byte after another
-top : (i : ℕ) → i < 4 → 256 ^ i ≤ 16777216
-top zero h = lit≤ tt
-top (suc zero) h = lit≤ tt
-top (suc (suc zero)) h = lit≤ tt
-top (suc (suc (suc zero))) h = lit≤ tt
-top (suc (suc (suc (suc i)))) h = absurd (no i h)
-  where
-    no : (i : ℕ) → suc (suc (suc (suc i))) < 4 → ⊥
-    no i h = omega arith
-
-pub cap : (i : ℕ) {v : ℕ} → i < 4 → v < 256 ^ i → v < 16777216
-cap i h l = lt-of-lt-of-le l (top i h)
-
 pub none : (l : List ℕ) (at : ℕ) → 0 ≡ bigEndian l at 0
 unfolding bigEndian
 none l at = refl
 
-pub next : (l : List ℕ) (at i : ℕ) {v : ℕ} → v ≡ bigEndian l at i → v * 256 + getD l (at + i) 0 ≡ bigEndian l at (i + 1)
-unfolding bigEndian
-next l at i {v} e = rw (add-one) (ap (λ (x : ℕ). x * 256 + getD l (at + i) 0) e)
-
-pub next-lt : (i : ℕ) {v x : ℕ} → v < 256 ^ i → x < 256 → v * 256 + x < 256 ^ (i + 1)
+next-lt : (i : ℕ) {v x : ℕ} → v < 256 ^ i → x < 256 → v * 256 + x < 256 ^ (i + 1)
 next-lt i {v} {x} h b = rw (add-one, pow-succ' 256 i) (go (256 ^ i) v x h b)
   where
     go : (p v x : ℕ) → v < p → x < 256 → v * 256 + x < 256 * p
@@ -46,7 +28,11 @@ big-lt l at b zero = lit< tt
 big-lt l at b (suc n) =
     subst (λ (x : ℕ). bigEndian l at n * 256 + getD l (at + n) 0 < 256 ^ x) (add-one n) (next-lt n (big-lt l at b n) (b (at + n)))
 
--- ---- two, three and four bytes written out
+-- ---- up to four bytes written out
+pub one-byte : (l : List ℕ) (at : ℕ) → bigEndian l at 1 ≡ getD l at 0
+unfolding bigEndian
+one-byte l at = rw (add-zero at) (omega arith)
+
 pub two-bytes : (l : List ℕ) (at : ℕ) → bigEndian l at 2 ≡ getD l at 0 * 256 + getD l (at + 1) 0
 unfolding bigEndian
 two-bytes l at = rw (add-zero at) (omega arith)

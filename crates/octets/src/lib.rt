@@ -1,6 +1,6 @@
 // "All multi-byte numbers in the stream are big-endian": numbers as they stand in bytes.
 ghost use mathlib.Core.Path.{_≡_};
-ghost use Prim.Native.Nat.{_+_, _*_, _<_, _≤_};
+ghost use Prim.Native.Nat.{_+_, _*_, _<_};
 ghost use lib.ListN.{getD};
 ghost use Rattle.octets.specs.BigEndian.{bigEndian, atMostFour};
 
@@ -9,27 +9,6 @@ pub fn byte(bytes: &[u8], at: usize) -> u8
     ensures { λ r. ⌜ r ≡ getD (now (bytes .entry)) at 0 ⌝ }
 {
     if at < bytes.len() { bytes[at] } else { 0 }
-}
-
-// At most four.
-fn capped(n: u32) -> u32
-    ensures { λ r. ⌜ (r ≡ atMostFour n) × (r ≤ 4) ⌝ }
-{
-    if n < 4 { n } else { 4 }
-}
-
-// The number of the n bytes from place `at` on; a place past the end reads 0, and more than four bytes count as four.
-pub fn read(bytes: &[u8], at: u32, n: u32) -> u32
-    ensures { λ r. ⌜ r ≡ bigEndian (now (bytes .entry)) at (atMostFour n) ⌝ }
-{
-    let wide = capped(n);
-    let mut number: u32 = 0;
-    let mut i: u32 = 0;
-    while i < wide {
-        number = number * 256 + byte(bytes, at as usize + i as usize) as u32;
-        i += 1;
-    }
-    number
 }
 
 fn wide(b: u8) -> u32
@@ -50,4 +29,50 @@ pub fn word(a: u8, b: u8, c: u8, d: u8) -> u32
     ensures { λ r. ⌜ r ≡ ((a * 256 + b) * 256 + c) * 256 + d ⌝ }
 {
     ((wide(a) * 256 + wide(b)) * 256 + wide(c)) * 256 + wide(d)
+}
+
+// Two bytes from a place on, 0 for each past the end.
+pub fn half_at(bytes: &[u8], at: u32) -> u16
+    ensures { λ r. ⌜ r ≡ bigEndian (now (bytes .entry)) at 2 ⌝ }
+{
+    let place = at as usize;
+    if place + 2 <= bytes.len() {
+        return half(bytes[place], bytes[place + 1]);
+    }
+    half(byte(bytes, place), byte(bytes, place + 1))
+}
+
+// Four bytes from a place on, 0 for each past the end.
+pub fn word_at(bytes: &[u8], at: u32) -> u32
+    ensures { λ r. ⌜ r ≡ bigEndian (now (bytes .entry)) at 4 ⌝ }
+{
+    let place = at as usize;
+    if place + 4 <= bytes.len() {
+        return word(
+            bytes[place],
+            bytes[place + 1],
+            bytes[place + 2],
+            bytes[place + 3],
+        );
+    }
+    word(
+        byte(bytes, place),
+        byte(bytes, place + 1),
+        byte(bytes, place + 2),
+        byte(bytes, place + 3),
+    )
+}
+
+// The number of the n bytes from place `at` on; a place past the end reads 0, and more than four bytes count as four.
+pub fn read(bytes: &[u8], at: u32, n: u32) -> u32
+    ensures { λ r. ⌜ r ≡ bigEndian (now (bytes .entry)) at (atMostFour n) ⌝ }
+{
+    let place = at as usize;
+    match n {
+        0 => 0,
+        1 => wide(byte(bytes, place)),
+        2 => half_at(bytes, at) as u32,
+        3 => half_at(bytes, at) as u32 * 256 + wide(byte(bytes, place + 2)),
+        _ => word_at(bytes, at),
+    }
 }

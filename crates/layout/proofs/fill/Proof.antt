@@ -1,12 +1,12 @@
--- After k turns both arrays hold the values below k and the total is the sum; no size passes 36 and no sum 129, so each fits a byte.
+-- After k turns the sums below k are there and the total is the next; no sum passes 129, so each fits a byte.
 use mathlib.Core.Path.{_≡_, refl, ap, _∙_}
 use mathlib.Core.List.{List}
 use Prim.Native.Nat.{ℕ, _-_, _<_, _≤_}
 use native.Mathlib.Omega.{arith}
 use borrow.Author.Needs.{needs}
-use lib.ListN.{length, take, replicate, length-set}
+use lib.ListN.{length, take, replicate, getD, length-set}
 use Rattle.laws.specs.Values.{upTo}
-use Rattle.laws.proofs.Filled.{fill-none, fill-next, fill-all}
+use Rattle.laws.proofs.Filled.{getD-upTo, fill-none, fill-next, fill-all}
 use Rattle.layout.specs.declared.Descriptor.{Descriptor}
 use Rattle.layout.specs.Sizes.{sizeOf, offsetOf}
 use Rattle.layout.proofs.Tests.{sum-none, sum-next}
@@ -14,55 +14,58 @@ use Rattle.layout.proofs.Bounds.{size-small, offset-le}
 use Rattle.layout.proofs.fill.Statement.{statement}
 use Rattle.layout.proofs.fill.Tie as tie
 
--- what holds after k turns
-record Turn (d : Descriptor) (sizes offsets : List ℕ) (total k : ℕ) : Type 0 where
+-- what holds after k turns, of the descriptor whose bytes these are
+record Turn (sizes offsets : List ℕ) (total k : ℕ) : Type 0 where
   pub below : k ≤ 21
-  pub many : length sizes ≡ 21
-  pub many′ : length offsets ≡ 21
-  pub done : take k sizes ≡ upTo (sizeOf d) k
-  pub done′ : take k offsets ≡ upTo (offsetOf d) k
-  pub sum : total ≡ offsetOf d k
+  pub many : length offsets ≡ 21
+  pub done : (d : Descriptor) → sizes ≡ upTo (sizeOf d) 21 → take k offsets ≡ upTo (offsetOf d) k
+  pub sum : (d : Descriptor) → sizes ≡ upTo (sizeOf d) 21 → total ≡ offsetOf d k
 
 abbrev Inv-loop : tie.InvT-loop
-Inv-loop d sizes₀ offsets₀ total₀ k₀ sizes offsets total k = Turn d sizes offsets total k
+Inv-loop sizes offsets₀ total₀ k₀ offsets total k = Turn sizes offsets total k
 
 abbrev μ-loop : tie.MeasureT-loop
-μ-loop d sizes₀ offsets₀ total₀ k₀ sizes offsets total k = 21 - k
+μ-loop sizes offsets₀ total₀ k₀ offsets total k = 21 - k
+
+-- the bytes of attribute k
+size-at : (d : Descriptor) (sizes : List ℕ) (k : ℕ) → sizes ≡ upTo (sizeOf d) 21 → k < 21 → getD sizes k 0 ≡ sizeOf d k
+size-at d sizes k e h = ap (λ (l : List ℕ). getD l k 0) e ∙ getD-upTo (sizeOf d) 21 k h
 
 loop-holds : tie.Need-loop-holds Inv-loop μ-loop
-loop-holds c =
-    let d = c .args .d in
-    record {
-      below = omega arith;
-      many = refl;
-      many′ = refl;
-      done = fill-none (sizeOf d) (replicate 21 0);
-      done′ = fill-none (offsetOf d) (replicate 21 0);
-      sum = sum-none d;
-    }
-
-size-requires : tie.Need-size-requires Inv-loop μ-loop
-size-requires c κs = search needs
-
-cast-sizes : tie.Need-cast-sizes Inv-loop μ-loop
-cast-sizes c = omega (arith, c .size .ensures, size-small (c .before .before .before .args .d) (c .before .before .loop .k))
-
-array-write-sizes : tie.Need-array-write-sizes Inv-loop μ-loop
-array-write-sizes c = search needs
+loop-holds c = record {
+  below = omega arith;
+  many = refl;
+  done = λ d e. fill-none (offsetOf d) (replicate 21 0);
+  sum = λ d e. sum-none d;
+}
 
 cast-offsets : tie.Need-cast-offsets Inv-loop μ-loop
 cast-offsets c =
-    let lp = c .before .before .loop in
-    omega (arith, lp .inv .sum, offset-le (c .before .before .before .args .d) (lp .k) (omega arith))
+    let lp = c .before .loop in
+    let s = c .before .before in
+    omega (arith, lp .inv .sum (s .args .d) (s .pre), offset-le (s .args .d) (lp .k) (omega arith))
 
 array-write-offsets : tie.Need-array-write-offsets Inv-loop μ-loop
 array-write-offsets c = search needs
 
+array-read-total : tie.Need-array-read-total Inv-loop μ-loop
+array-read-total c = search needs
+
+cast-total : tie.Need-cast-total Inv-loop μ-loop
+cast-total c = search needs
+
 add-total : tie.Need-add-total Inv-loop μ-loop
 add-total c =
-    let lp = c .before .before .loop in
-    let d = c .before .before .before .args .d in
-    omega (arith, lp .inv .sum, offset-le d (lp .k) (omega arith), c .size .ensures, size-small d (lp .k))
+    let lp = c .before .loop in
+    let s = c .before .before in
+    let d = s .args .d in
+    omega (
+      arith,
+      lp .inv .sum d (s .pre),
+      offset-le d (lp .k) (omega arith),
+      size-at d (s .args .t2) (lp .k) (s .pre) (omega arith),
+      size-small d (lp .k),
+    )
 
 add-k : tie.Need-add-k Inv-loop μ-loop
 add-k c = search needs
@@ -72,29 +75,27 @@ loop-less c = search needs
 
 loop-again : tie.Need-loop-again Inv-loop μ-loop
 loop-again c =
-    let lp = c .before .before .loop in
-    let d = c .before .before .before .args .d in
-    let inside : lp .k < length (lp .sizes) = omega (arith, lp .inv .many) in
-    let inside′ : lp .k < length (lp .offsets) = omega (arith, lp .inv .many′) in
+    let lp = c .before .loop in
+    let sizes = c .before .before .args .t2 in
+    let inside : lp .k < length (lp .offsets) = omega (arith, lp .inv .many) in
     record {
       below = omega arith;
       many = simp length-set (lp .inv .many);
-      many′ = simp length-set (lp .inv .many′);
-      done = fill-next (sizeOf d) (lp .sizes) (lp .k) (c .size .result) inside (lp .inv .done) (c .size .ensures);
-      done′ = fill-next (offsetOf d) (lp .offsets) (lp .k) (lp .total) inside′ (lp .inv .done′) (lp .inv .sum);
-      sum = sum-next d (lp .k) (lp .total) (c .size .result) (lp .inv .sum) (c .size .ensures);
+      done = λ d e. fill-next (offsetOf d) (lp .offsets) (lp .k) (lp .total) inside (lp .inv .done d e) (lp .inv .sum d e);
+      sum = λ d e. sum-next d (lp .k) (lp .total) (getD sizes (lp .k) 0) (lp .inv .sum d e) (size-at d sizes (lp .k) e (omega arith));
     }
 
 returns : tie.Need-returns Inv-loop μ-loop
 returns c =
     let lp = c .before .loop in
-    let d = c .before .before .args .d in
+    let s = c .before .before in
+    let d = s .args .d in
     let e : lp .k ≡ 21 = omega arith in
     record {
       answer-is = refl;
-      length-is = lp .inv .sum ∙ ap (λ (x : ℕ). offsetOf d x) e;
-      sizes-is = fill-all (sizeOf d) (lp .sizes) 21 (lp .k) (lp .inv .many) e (lp .inv .done);
-      offsets-is = fill-all (offsetOf d) (lp .offsets) 21 (lp .k) (lp .inv .many′) e (lp .inv .done′);
+      length-is = lp .inv .sum d (s .pre) ∙ ap (λ (x : ℕ). offsetOf d x) e;
+      sizes-is = s .pre;
+      offsets-is = fill-all (offsetOf d) (lp .offsets) 21 (lp .k) (lp .inv .many) e (lp .inv .done d (s .pre));
     }
 
 pub fill-spec : {M : Type 1} → statement M
@@ -104,11 +105,10 @@ fill-spec =
     Inv-loop
     μ-loop
     loop-holds
-    size-requires
-    cast-sizes
-    array-write-sizes
     cast-offsets
     array-write-offsets
+    array-read-total
+    cast-total
     add-total
     add-k
     loop-less

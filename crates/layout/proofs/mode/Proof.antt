@@ -1,45 +1,75 @@
--- The bits at the place that the table gives: one for a matrix, two for others.
-use mathlib.Core.Path.{ap, _∙_}
-use Prim.Native.Nat.{ℕ}
-use borrow.Author.Tests.{lt-ltb, le-ltb}
-use Rattle.layout.specs.Fields.{bitsAt, modeOf}
+-- Where the code has the bits the table has them.
+use mathlib.Core.Path.{sym}
+use Rattle.layout.proofs.Modes.{matrix-mode, fore-mode, texture-mode, none-mode}
 use borrow.Author.Needs.{needs}
 use Rattle.layout.proofs.mode.Statement.{statement}
 use Rattle.layout.proofs.mode.Tie as tie
 
-mode-place-requires : tie.Need-mode-place-requires
-mode-place-requires c κs = search needs
+cast-result : tie.Need-cast-result
+cast-result c = search needs
 
-bits-requires : tie.Need-bits-requires
-bits-requires c κs = search needs
-
-mode-place-requires-2 : tie.Need-mode-place-requires-2
-mode-place-requires-2 c κs = search needs
-
-bits-requires-2 : tie.Need-bits-requires-2
-bits-requires-2 c κs = search needs
+shr-result : tie.Need-shr-result
+shr-result c = search needs
 
 returns : tie.Need-returns
-unfolding modeOf
 returns c =
-    let at = c .before .before in
-    rw (lt-ltb _ _ (at .if1 .taken)) (c .bits .ensures ∙ ap (λ (p : ℕ). bitsAt (at .before .args .d) p 2)
-    (c .before .mode-place .ensures))
+    let a = c .before .before .args in
+    sym (matrix-mode (a .d) (a .k) (c .before .if1 .taken))
+
+cast-result-2 : tie.Need-cast-result-2
+cast-result-2 c = search needs
+
+mul-result : tie.Need-mul-result
+mul-result c = search needs
+
+sub-result : tie.Need-sub-result
+sub-result c = search needs
+
+shr-result-2 : tie.Need-shr-result-2
+shr-result-2 c = search needs
 
 returns-2 : tie.Need-returns-2
-unfolding modeOf
 returns-2 c =
-    let at = c .before .before in
-    rw (le-ltb _ _ (at .if1 .left)) (c .bits2 .ensures ∙ ap (λ (p : ℕ). bitsAt (at .before .args .d) p 4)
-    (c .before .mode-place2 .ensures))
+    let a = c .before .before .before .args in
+    sym (fore-mode (a .d) (a .k) (c .before .before .if1 .left) (c .before .if2 .taken))
+
+cast-result-3 : tie.Need-cast-result-3
+cast-result-3 c = search needs
+
+mul-result-2 : tie.Need-mul-result-2
+mul-result-2 c = search needs
+
+sub-result-2 : tie.Need-sub-result-2
+sub-result-2 c = search needs
+
+shr-result-3 : tie.Need-shr-result-3
+shr-result-3 c = search needs
+
+returns-3 : tie.Need-returns-3
+returns-3 c =
+    let a = c .before .before .before .before .args in
+    sym (texture-mode (a .d) (a .k) (c .before .before .if2 .left) (c .before .if3 .taken))
+
+returns-4 : tie.Need-returns-4
+returns-4 c =
+    let a = c .before .before .before .args in
+    sym (none-mode (a .d) (a .k) (c .if3 .left))
 
 pub mode-spec : {M : Type 1} → statement M
 mode-spec =
     tie.close
     (tie.spec
-    mode-place-requires
-    bits-requires
-    mode-place-requires-2
-    bits-requires-2
+    cast-result
+    shr-result
     returns
-    returns-2)
+    cast-result-2
+    mul-result
+    sub-result
+    shr-result-2
+    returns-2
+    cast-result-3
+    mul-result-2
+    sub-result-2
+    shr-result-3
+    returns-3
+    returns-4)

@@ -1,80 +1,87 @@
--- `octets::read` meets its contract: after i bytes the number is that of the first i.
-use mathlib.Core.Path.{_≡_, ap, _∙_}
-use Prim.Native.Nat.{ℕ, _-_, _^_, _<_, _≤_}
+-- So many bytes written out; from four on they are four.
+use mathlib.Core.Path.{sym, _∙_}
+use Prim.Native.Nat.{_≤_}
 use native.Mathlib.Omega.{arith}
-use lib.Dec.{lit<}
+use borrow.Author.Tests.{le-ltb}
+use Rattle.octets.proofs.Number.{none, one-byte, two-bytes, three-bytes}
 use borrow.Author.Needs.{needs}
-use Rattle.octets.specs.BigEndian.{bigEndian}
-use Rattle.octets.proofs.Number.{cap, next, next-lt, none}
 use Rattle.octets.proofs.read.Statement.{statement}
 use Rattle.octets.proofs.read.Tie as tie
 
-abbrev Inv-loop : tie.InvT-loop
-Inv-loop bytes at n wide number₀ i₀ number i = (i ≤ wide) × (number ≡ bigEndian bytes at i) × (number < 256 ^ i)
-
-abbrev μ-loop : tie.MeasureT-loop
-μ-loop bytes at n wide number₀ i₀ number i = wide - i
-
-capped-requires : tie.Need-capped-requires Inv-loop μ-loop
-capped-requires c κs = search needs
-
-loop-holds : tie.Need-loop-holds Inv-loop μ-loop
-loop-holds c = (omega arith, none _ _, lit< tt)
-
-mul-number : tie.Need-mul-number Inv-loop μ-loop
-mul-number c = omega (arith, cap (c .before .loop .i) (omega arith) (c .before .loop .inv .2))
-
-cast-byte : tie.Need-cast-byte Inv-loop μ-loop
-cast-byte c = search needs
-
-add-byte : tie.Need-add-byte Inv-loop μ-loop
-add-byte c = search needs
-
-byte-requires : tie.Need-byte-requires Inv-loop μ-loop
+byte-requires : tie.Need-byte-requires
 byte-requires c κs = search needs
 
-cast-number : tie.Need-cast-number Inv-loop μ-loop
-cast-number c = search needs
+wide-requires : tie.Need-wide-requires
+wide-requires c κs = search needs
 
-add-number : tie.Need-add-number Inv-loop μ-loop
-add-number c =
-    let lp = c .before .before .loop in
-    omega (arith, cap (lp .i) (omega arith) (lp .inv .2))
+half-at-requires : tie.Need-half-at-requires
+half-at-requires c κs = search needs
 
-add-i : tie.Need-add-i Inv-loop μ-loop
-add-i c = search needs
+cast-result : tie.Need-cast-result
+cast-result c = search needs
 
-loop-less : tie.Need-loop-less Inv-loop μ-loop
-loop-less c = search needs
+half-at-requires-2 : tie.Need-half-at-requires-2
+half-at-requires-2 c κs = search needs
 
-loop-again : tie.Need-loop-again Inv-loop μ-loop
-loop-again c =
-    let lp = c .before .before .loop in
-    (search needs, rw (c .byte .ensures) (next _ _ _ (lp .inv .1)), next-lt _ (lp .inv .2) (search needs))
+cast-result-2 : tie.Need-cast-result-2
+cast-result-2 c = search needs
 
-returns : tie.Need-returns Inv-loop μ-loop
-returns c =
-    let lp = c .before .loop in
-    let e : lp .i ≡ c .before .before .capped .result = omega arith in
-    lp .inv .1
-    ∙ ap (λ (k : ℕ). bigEndian (c .before .before .before .before .args .bytes .now) (c .before .before .before .before .args .at) k)
-    (e ∙ c .before .before .capped .ensures .0)
+mul-result : tie.Need-mul-result
+mul-result c = search needs
+
+add-byte : tie.Need-add-byte
+add-byte c = search needs
+
+byte-requires-2 : tie.Need-byte-requires-2
+byte-requires-2 c κs = search needs
+
+wide-requires-2 : tie.Need-wide-requires-2
+wide-requires-2 c κs = search needs
+
+add-result : tie.Need-add-result
+add-result c = search needs
+
+word-at-requires : tie.Need-word-at-requires
+word-at-requires c κs = search needs
+
+returns : tie.Need-returns
+returns c = rw (c .match .keys1) (none _ _)
+
+returns-2 : tie.Need-returns-2
+returns-2 c = rw (c .before .before .match .keys2) (c .wide .ensures .0 ∙ c .before .byte .ensures ∙ sym (one-byte _ _))
+
+returns-3 : tie.Need-returns-3
+returns-3 c = rw (c .before .match .keys3) (c .half-at .ensures)
+
+returns-4 : tie.Need-returns-4
+returns-4 c =
+    let two = c .before .before in
+    rw (two .before .match .keys4) (rw (two .half-at2 .ensures ∙ two-bytes _ _, c .wide2 .ensures .0 ∙ c .before .byte2 .ensures) (sym (three-bytes _ _)))
+
+returns-5 : tie.Need-returns-5
+returns-5 c =
+    let n = c .before .before .before .args .n in
+    let four : 4 ≤ n = omega (arith, c .before .match .rest) in
+    rw (le-ltb n 4 four) (c .word-at .ensures)
 
 pub read-spec : {M : Type 1} → statement M
 read-spec =
     tie.close
     (tie.spec
-    Inv-loop
-    μ-loop
-    capped-requires
-    loop-holds
-    mul-number
-    cast-byte
-    add-byte
     byte-requires
-    cast-number
-    add-number
-    add-i
-    loop-less
-    loop-again
-    returns)
+    wide-requires
+    half-at-requires
+    cast-result
+    half-at-requires-2
+    cast-result-2
+    mul-result
+    add-byte
+    byte-requires-2
+    wide-requires-2
+    add-result
+    word-at-requires
+    returns
+    returns-2
+    returns-3
+    returns-4
+    returns-5)

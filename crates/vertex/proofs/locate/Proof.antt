@@ -1,15 +1,11 @@
 -- The refusal of the layout, else 19 by number and length, else the sum before the attribute.
 use mathlib.Core.Path.{_≡_, sym, ap, _∙_}
-use mathlib.Core.List.{List, [], _∷_}
+use mathlib.Core.List.{[], _∷_}
 use Prim.Native.Nat.{ℕ, _<_}
 use native.Mathlib.Omega.{arith}
-use lib.ListN.{getD}
-use borrow.Author.Tests.{eq-eqb}
-use Rattle.laws.specs.Values.{upTo}
-use Rattle.laws.proofs.Filled.{getD-upTo}
 use Rattle.layout.specs.Sizes.{offsetOf}
 use Rattle.layout.specs.Answers.{refusalOf}
-use Rattle.layout.proofs.Bounds.{length-accepted}
+use Rattle.layout.proofs.Bounds.{length-accepted, offset-le}
 use Rattle.vertex.specs.Answers.{refusalAt}
 use Rattle.vertex.proofs.Refusals.{refused-number, refused-length, accepted-at, unless-refused, unless-accepted, layout-refused}
 use Rattle.vertex.proofs.Refusals.{layout-accepted}
@@ -18,20 +14,20 @@ use Rattle.vertex.proofs.locate.Statement.{statement}
 use Rattle.vertex.proofs.locate.Tie as tie
 
 -- in the arm of an accepted layout nothing is refused by it
-accepted : (c : tie.After-enum-told) → refusalOf (c .before .before .before .before .before .args .descriptor) ≡ 0
+accepted : (c : tie.After-enum-told) → refusalOf (c .before .before .before .before .args .descriptor) ≡ 0
 accepted c =
-    let at = c .before .before .before in
-    layout-accepted (at .before .before .args .descriptor) (c .enum-told .given .1) (at .lay-out .ensures .answer-is)
+    let at = c .before .before in
+    layout-accepted (at .before .before .args .descriptor) (c .enum-told .given .1) (at .find .ensures .answer-is)
 
 -- and its length is the sum of all
-length-is : (c : tie.After-enum-told) → c .before .before .before .lay-out .result .length ≡ offsetOf
-    (c .before .before .before .before .before .args .descriptor) 21
+length-is : (c : tie.After-enum-told) → c .before .before .find .result .length ≡ offsetOf
+    (c .before .before .before .before .args .descriptor) 21
 length-is c =
-    let at = c .before .before .before in
-    at .lay-out .ensures .length-is ∙ length-accepted (at .before .before .args .descriptor) (accepted c)
+    let at = c .before .before in
+    at .find .ensures .length-is ∙ length-accepted (at .before .before .args .descriptor) (accepted c)
 
-lay-out-requires : tie.Need-lay-out-requires
-lay-out-requires c κs = search needs
+find-requires : tie.Need-find-requires
+find-requires c κs = search needs
 
 enum-known-answer : tie.Need-enum-known-answer
 enum-known-answer c = search needs
@@ -42,7 +38,7 @@ enum-told c = search needs
 returns : tie.Need-returns
 returns c =
     let at = c .before in
-    let a = at .before .before .before .before .before .args in
+    let a = at .before .before .before .before .args in
     unless-refused (refusalAt (a .descriptor) (a .k) (a .vertex .now)) 19 _ (refused-number (a .descriptor) (a .k) (a .vertex .now)
     (accepted at) (c .if1 .taken)) (λ e. omega arith)
 
@@ -52,33 +48,37 @@ cast-if2 c = search needs
 returns-2 : tie.Need-returns-2
 returns-2 c =
     let at = c .before .before in
-    let a = at .before .before .before .before .before .args in
+    let a = at .before .before .before .before .args in
     unless-refused (refusalAt (a .descriptor) (a .k) (a .vertex .now)) 19 _
     (refused-length (a .descriptor) (a .k) (a .vertex .now) (accepted at) (omega (arith, c .before .if1 .left))
     (λ h. c .if2 .taken (h ∙ sym (length-is at))))
     (λ e. omega arith)
 
-array-read-t17 : tie.Need-array-read-t17
-array-read-t17 c = search needs
+cast-t15 : tie.Need-cast-t15
+cast-t15 c =
+    let at = c .before .before in
+    let a = at .before .before .before .before .args in
+    omega (
+      arith,
+      at .before .before .find .ensures .offset-is (omega (arith, c .before .if1 .left)),
+      offset-le (a .descriptor) (a .k) (omega (arith, c .before .if1 .left)),
+    )
 
 returns-3 : tie.Need-returns-3
 returns-3 c =
-    let at = c .before .before .before .before in
+    let at = c .before .before .before in
     let a = at .before .before .args in
     layout-refused (a .descriptor) (a .k) (a .vertex .now) (offsetOf (a .descriptor) (a .k) ∷ []) (c .before .answer .given .1)
-    (at .lay-out .ensures .answer-is)
+    (at .find .ensures .answer-is)
 
 returns-4 : tie.Need-returns-4
 returns-4 c =
     let at = c .before .before in
-    let laid = at .before .before .before in
-    let a = laid .before .before .args in
+    let spot = at .before .before in
+    let a = spot .before .before .args in
     let d = a .descriptor in
     let h : a .k < 21 = omega (arith, c .before .if1 .left) in
-    let o : laid .lay-out .result .offsets ≡ upTo (offsetOf d) 21 =
-    laid .lay-out .ensures .offsets-is ∙ rw (eq-eqb (refusalOf d) 0 (accepted at)) in
-    ap (λ (x : List ℕ). 0 ∷ getD x (a .k) 0 ∷ []) o
-    ∙ ap (λ (x : ℕ). 0 ∷ x ∷ []) (getD-upTo (offsetOf d) 21 (a .k) h)
+    ap (λ (x : ℕ). 0 ∷ x ∷ []) (spot .find .ensures .offset-is (omega arith))
     ∙ unless-accepted (refusalAt d (a .k) (a .vertex .now)) (offsetOf d (a .k) ∷ [])
     (accepted-at d (a .k) (a .vertex .now) (accepted at) h (c .if2 .left ∙ length-is at))
 
@@ -86,12 +86,12 @@ pub locate-spec : {M : Type 1} → statement M
 locate-spec =
     tie.close
     (tie.spec
-    lay-out-requires
+    find-requires
     enum-known-answer
     enum-told
     returns
     cast-if2
     returns-2
-    array-read-t17
+    cast-t15
     returns-3
     returns-4)
