@@ -1,8 +1,9 @@
--- What is found where all its bytes are there: a vertex of an open draw, a BP load.
-use mathlib.Core.Path.{_≡_, refl}
+-- What is found where all its bytes are there: a vertex of an open draw, a load, a draw's head.
+use mathlib.Core.Path.{_≡_, refl, sym, _∙_}
 use mathlib.Core.Bool.{Bool, true, false, cond}
+use mathlib.Core.Logic.{⊎-elim}
 use mathlib.Core.List.{List}
-use Prim.Native.Nat.{ℕ, _+_, _*_, _≤_}
+use Prim.Native.Nat.{ℕ, _+_, _*_, _/_, _%_, _<_, _≤_}
 use native.Mathlib.Omega.{arith}
 use lib.Dec.{eqb}
 use lib.ListN.{getD}
@@ -13,8 +14,11 @@ use Rattle.layout.specs.Sizes.{offsetOf}
 use Rattle.layout.specs.Answers.{refusalOf, lengthOf}
 use Rattle.layout.proofs.Bounds.{length-le}
 use Rattle.command.specs.declared.Draw.the-variants.{Closed, Open}
-use Rattle.command.specs.Command.{unit, vertex, loadBp, loadXf}
-use Rattle.command.specs.Look.{descriptorOf, vertexBytes, lookOf, byOpcode, lookBp, xfCount, xfWords, xfAddress, lookXf, lookVertex, whole}
+use Rattle.command.specs.Command.{unit, vertex, loadCp, loadBp, loadXf, drawHead}
+use Rattle.command.specs.Places.{cpAccepted}
+use Rattle.command.specs.Look.{descriptorOf, vertexBytes, whole, lookCp, lookBp, lookHead, lookVertex, byOpcode, lookOf}
+use Rattle.command.specs.Look.{xfCount, xfWords, xfAddress, lookXf}
+use Rattle.command.proofs.Opcodes.{Other, at-opcode, at-head}
 
 -- a length is that of an accepted layout
 accepted : (d : Descriptor) → 1 ≤ lengthOf d → refusalOf d ≡ 0
@@ -44,3 +48,31 @@ unfolding lookOf byOpcode lookXf whole
 looks-xf b n cp e l h =
     let five : 5 ≤ n = omega arith in
     rw (ne-eqb n 0 (λ z. omega arith), e, le-ltb n 5 five, le-ltb xfCount (xfAddress b + xfWords b) l, le-ltb n (5 + 4 * xfWords b) h)
+
+pub looks-cp : (b : List ℕ) (n : ℕ) (cp : List ℕ) → getD b 0 0 ≡ 0x08 → cpAccepted (getD b 1 0) ≡ true → 6 ≤ n
+    → lookOf b n cp Closed ≡ unit (loadCp (getD b 1 0) (bigEndian b 2 4)) 0 6
+unfolding lookOf byOpcode lookCp whole
+looks-cp b n cp e a h =
+    let two : 2 ≤ n = omega arith in
+    rw (ne-eqb n 0 (λ z. omega arith), e, le-ltb n 2 two, a, le-ltb n 6 h)
+
+-- an opcode of a draw is none of the single ones
+head-other : (op : ℕ) → 0x80 ≤ op → Other op
+head-other op h =
+    record {
+      no-operation = λ e. omega arith;
+      invalidate = λ e. omega arith;
+      metrics = λ e. omega arith;
+      cp = λ e. omega arith;
+      xf = λ e. omega arith;
+      indexed = ⊎-elim (λ a. omega (arith, a)) (⊎-elim (λ a. omega (arith, a)) (⊎-elim (λ a. omega (arith, a)) (λ a. omega (arith, a))));
+      call = λ e. omega arith;
+      bp = λ e. omega arith;
+    }
+
+pub looks-head : (b : List ℕ) (n : ℕ) (cp : List ℕ) (op : ℕ) → getD b 0 0 ≡ op → 0x80 ≤ op → op < 0xC0 → 1 ≤ vertexBytes cp (op % 8) → 3 ≤ n
+    → lookOf b n cp Closed ≡ unit (drawHead (op / 8 % 8) (op % 8) (bigEndian b 1 2)) 0 3
+unfolding lookHead whole
+looks-head b n cp op e l h s t =
+    sym (at-opcode b n cp e (λ z. omega arith)) ∙ sym (at-head b n cp (head-other op l) l h)
+    ∙ rw (accepted (descriptorOf cp (op % 8)) s, le-ltb n 3 t)

@@ -29,30 +29,28 @@ pub fn stride_place(array: u8) -> usize
     44 + array as usize
 }
 
-// The place of the register that a CP load's address names, COUNT where it names none.
+// The place of the register that a CP load's address names, COUNT where it names none. Strides stand right behind the bases.
 pub fn cp_place(address: u8) -> usize
     ensures { λ r. ⌜ r ≡ cpPlace address ⌝ }
 {
+    if 0xA0 <= address {
+        return if address < 0xC0 {
+            base_place(address - 0xA0)
+        } else {
+            COUNT
+        };
+    }
     if address < 0x30 {
         return COUNT;
     }
     if address < 0x70 {
         return address as usize / 16 - 3;
     }
-    if address < 0xA0 {
-        return if address % 16 < 8 {
-            vat_place(address % 16, address / 16 - 7)
-        } else {
-            COUNT
-        };
+    if address % 16 < 8 {
+        vat_place(address % 16, address / 16 - 7)
+    } else {
+        COUNT
     }
-    if address < 0xB0 {
-        return base_place(address - 0xA0);
-    }
-    if address < 0xC0 {
-        return stride_place(address - 0xB0);
-    }
-    COUNT
 }
 
 // Whether a CP load to the address is accepted; 20 is, without effect.

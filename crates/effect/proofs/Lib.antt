@@ -1,2 +1,4 @@
 pub mod Arms
 pub mod Lengths
+pub mod Four
+pub mod Mask

@@ -2,11 +2,21 @@
 use command::Command;
 use command::Draw;
 ghost use mathlib.Core.Path.{_≡_};
+ghost use mathlib.Core.Bool.{cond};
 ghost use Prim.Native.Nat.{_+_, _*_, _≤_};
 ghost use lib.ListN.{length};
+ghost use Rattle.octets.specs.BigEndian.{bigEndian};
 ghost use Rattle.command.specs.Command.{numbersOf};
 ghost use Rattle.effect.specs.Effect.{keptOf, loadedCp, loadedBp, loadedXf, storedXf, copied};
 ghost use Rattle.effect.specs.Effect.{drawAfter, openedBy, countedDown, masked, Applied};
+ghost use Rattle.effect.specs.Inner.{fourStored};
+
+// One number or the other. It stands alone in a function, so that the compiler makes a conditional move of it and no branch.
+fn chosen(test: bool, yes: u32, no: u32) -> u32
+    ensures { λ r. ⌜ r ≡ cond test yes no ⌝ }
+{
+    if test { yes } else { no }
+}
 
 // What a CP register keeps of a number.
 fn kept(address: u8, number: u32) -> u32
@@ -15,10 +25,7 @@ fn kept(address: u8, number: u32) -> u32
     if address < 0xA0 {
         return number;
     }
-    if address < 0xB0 {
-        return number % 0x400_0000;
-    }
-    number % 256
+    chosen(address < 0xB0, number % 0x400_0000, number % 256)
 }
 
 // A CP load.
@@ -47,25 +54,46 @@ pub fn load_bp(bp: &mut [u32; 256], register: u8, number: u32)
     let mask = bp[0xFE];
     let at = register as usize;
     let old = bp[at];
-    bp[at] = replace_bits(old, mask, number);
-    if register != 0xFE {
-        bp[0xFE] = 0xFF_FFFF;
-    }
+    let new = replace_bits(old, mask, number);
+    bp[at] = new;
+    bp[0xFE] = chosen(register == 0xFE, new, 0xFF_FFFF);
 }
 
-// The words of an XF load, from its unit's bytes.
+// The word at a place of the bytes.
+fn word_at(bytes: &[u8], at: usize) -> u32
+    requires { ⌜ at + 4 ≤ length (now bytes) ⌝ }
+    ensures { λ r. ⌜ r ≡ bigEndian (now (bytes .entry)) at 4 ⌝ }
+{
+    octets::word(bytes[at], bytes[at + 1], bytes[at + 2], bytes[at + 3])
+}
+
+// Four words from a place of the bytes on: all are read before one is stored.
+fn store_four(xf: &mut [u32], bytes: &[u8], to: usize, at: usize)
+    requires { ⌜ (at + 16 ≤ length (now bytes)) × (to + 4 ≤ length (now xf)) ⌝ }
+    ensures { λ _. ⌜ now (xf .exit) ≡ fourStored (now (xf .entry)) (now (bytes .entry)) to at ⌝ }
+{
+    let a = word_at(bytes, at);
+    let b = word_at(bytes, at + 4);
+    let c = word_at(bytes, at + 8);
+    let d = word_at(bytes, at + 12);
+    xf[to] = a;
+    xf[to + 1] = b;
+    xf[to + 2] = c;
+    xf[to + 3] = d;
+}
+
+// The words of an XF load, from its unit's bytes: four at a time, then the rest.
 fn store_xf(xf: &mut [u32], bytes: &[u8], address: usize, words: usize)
     requires { ⌜ (5 + 4 * words ≤ length (now bytes)) × ((address + words ≤ length (now xf)) × (words ≤ 255)) ⌝ }
     ensures { λ _. ⌜ now (xf .exit) ≡ storedXf (now (xf .entry)) (now (bytes .entry)) address words ⌝ }
 {
     let mut i: usize = 0;
+    while 4 <= words - i {
+        store_four(xf, bytes, address + i, 5 + 4 * i);
+        i += 4;
+    }
     while i < words {
-        let at = 5 + 4 * i;
-        let a = bytes[at];
-        let b = bytes[at + 1];
-        let c = bytes[at + 2];
-        let d = bytes[at + 3];
-        xf[address + i] = octets::word(a, b, c, d);
+        xf[address + i] = word_at(bytes, 5 + 4 * i);
         i += 1;
     }
 }

@@ -1,6 +1,6 @@
 -- The list of a function's values: its length and elements, and an array that a loop fills with them.
 use mathlib.Core.Path.{_≡_, refl, sym, ap, _∙_, subst}
-use mathlib.Core.List.{List, [], _∷_, _++_}
+use mathlib.Core.List.{List, [], _∷_, _++_, append-nil, append-assoc}
 use mathlib.Core.Logic.{inl, inr}
 use Prim.Native.Nat.{ℕ, zero, suc, _+_, _<_, _≤_}
 use native.Mathlib.Nat.{le-of-eq, eq-or-lt-of-le, le-of-suc-le-suc, not-suc-le-zero, add-zero}
@@ -25,6 +25,15 @@ getD-upTo f (suc n) k h = elim (eq-or-lt-of-le (le-of-suc-le-suc h)) [
       ∙ ap f (sym e)
   | inr l ↦ List·getD-append (upTo f n) (f n ∷ []) 0 k (subst (λ (x : ℕ). k < x) (sym (length-upTo f n)) l) ∙ getD-upTo f n k l
 ]
+
+-- the values in two parts
+pub upTo-add : (f : ℕ → ℕ) (a b : ℕ) → upTo f (a + b) ≡ upTo f a ++ upTo (λ k. f (a + k)) b
+unfolding upTo
+upTo-add f a zero = rw (add-zero a) (sym (append-nil (upTo f a)))
+upTo-add f a (suc b) =
+    let e : a + suc b ≡ suc (a + b) = omega arith in
+    rw e
+    (ap (λ (x : List ℕ). x ++ (f (a + b) ∷ [])) (upTo-add f a b) ∙ append-assoc (upTo f a) (upTo (λ k. f (a + k)) b) (f (a + b) ∷ []))
 
 -- nothing is filled yet
 pub fill-none : (f : ℕ → ℕ) (l : List ℕ) → take 0 l ≡ upTo f 0

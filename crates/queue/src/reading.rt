@@ -7,10 +7,11 @@ use fifo::minus;
 use fifo::with_window;
 ghost use mathlib.Core.Path.{_≡_};
 ghost use mathlib.Core.List.{_++_};
-ghost use Prim.Native.Nat.{_≤_};
+ghost use Prim.Native.Nat.{_≤_, min};
 ghost use lib.ListN.{length, drop};
 ghost use Rattle.laws.specs.Values.{upTo};
 ghost use Rattle.queue.specs.Cursor.{opened, onward, byteOf, peeked, copied, skipped, straightBy, closed};
+ghost use Rattle.queue.specs.Inner.{roundBy};
 
 // The cursor at the read pointer, with all pending bytes left.
 pub fn open(fifo: Fifo) -> Cursor
@@ -43,7 +44,7 @@ fn byte(cursor: Cursor, ring: &[u8], k: u32) -> u8
     if place < ring.len() { ring[place] } else { 0 }
 }
 
-// Copies byte after byte, round the ring's end or past the last.
+// Copies byte after byte, for cursors and lengths that fit neither other way: past the last byte, or a ring shorter than the cursor's size.
 fn gather(cursor: Cursor, ring: &[u8], out: &mut [u8], n: u32)
     requires { ⌜ n ≤ length (now out) ⌝ }
     ensures { λ _. ⌜ now (out .exit) ≡ upTo (byteOf cursor (now (ring .entry))) n ++ drop n (now (out .entry)) ⌝ }
@@ -55,13 +56,37 @@ fn gather(cursor: Cursor, ring: &[u8], out: &mut [u8], n: u32)
     }
 }
 
+// Whether the first n bytes are there and lie in two stretches, up to the cursor's size and from the ring's first byte on.
+fn round(cursor: Cursor, ring: usize, n: u32) -> bool
+    ensures { λ r. ⌜ r ≡ roundBy cursor ring n ⌝ }
+{
+    let first = minus(cursor.size, cursor.at);
+    let there = (n <= cursor.left) & (cursor.at <= cursor.size);
+    there & ((first <= n) & ((cursor.size as usize <= ring) & (minus(n, first) as usize <= ring)))
+}
+
+// Copies n bytes that are not straight: in two stretches where they lie so.
+fn copy_round(cursor: Cursor, ring: &[u8], out: &mut [u8], n: u32)
+    requires { ⌜ n ≤ length (now out) ⌝ }
+    ensures { λ _. ⌜ now (out .exit) ≡ upTo (byteOf cursor (now (ring .entry))) n ++ drop n (now (out .entry)) ⌝ }
+{
+    if !round(cursor, ring.len(), n) {
+        gather(cursor, ring, out, n);
+        return;
+    }
+    let first = (cursor.size - cursor.at) as usize;
+    let rest = n as usize - first;
+    store(out, 0, &ring[cursor.at as usize..cursor.size as usize]);
+    store(out, first, &ring[..rest]);
+}
+
 // Copies n bytes, straight where they lie so.
 fn copy_front(cursor: Cursor, ring: &[u8], out: &mut [u8], n: u32)
     requires { ⌜ n ≤ length (now out) ⌝ }
     ensures { λ _. ⌜ now (out .exit) ≡ upTo (byteOf cursor (now (ring .entry))) n ++ drop n (now (out .entry)) ⌝ }
 {
     if !straight(cursor, n) {
-        gather(cursor, ring, out, n);
+        copy_round(cursor, ring, out, n);
         return;
     }
     let at = cursor.at as usize;
@@ -85,12 +110,19 @@ pub fn copy(cursor: Cursor, ring: &[u8], out: &mut [u8], n: u32)
     copy_front(cursor, ring, out, n);
 }
 
+// The less of two.
+fn least(a: u32, b: u32) -> u32
+    ensures { λ r. ⌜ r ≡ min a b ⌝ }
+{
+    if a < b { a } else { b }
+}
+
 // The first nine bytes, zeros past the last.
 pub fn peek(cursor: Cursor, ring: &[u8]) -> [u8; 9]
     ensures { λ r. ⌜ r ≡ peeked cursor (now (ring .entry)) ⌝ }
 {
     let mut bytes = [0u8; 9];
-    copy(cursor, ring, &mut bytes, 9);
+    copy(cursor, ring, &mut bytes, least(cursor.left, 9));
     bytes
 }
 

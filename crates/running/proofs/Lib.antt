@@ -1,7 +1,6 @@
 pub mod Course
 pub mod Ahead
-pub mod Wholes
-pub mod Follow
+pub mod Stretched
 pub mod Runs
 pub mod Meanings
 pub mod Invariant

@@ -1,4 +1,3 @@
-pub mod Vertices
-pub mod Loads
 pub mod Run
 pub mod Promises
+pub mod Stretch

@@ -14,12 +14,7 @@ use Rattle.running.specs.declared.Ran.{Ran}
 use Rattle.processor.specs.State.{State, stateOf}
 use Rattle.processor.specs.Gate.{gateOf}
 use Rattle.processor.specs.Step.{stepFound, stepOf}
-
--- a unit that a run took: its command, the reported memory address, and its bytes
-pub record Taken : Type 0 where
-  pub command : List ℕ
-  pub memory : ℕ
-  pub length : ℕ
+pub use Rattle.walk.specs.Flat.{Taken}
 
 -- how a run ended: the units that it took, why it stopped, and the state that it left
 pub record Ended : Type 0 where

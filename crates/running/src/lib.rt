@@ -1,7 +1,6 @@
 // A run of units: steps until the limit, waiting or a refusal.
-mod loads;
+mod stretch;
 mod units;
-mod vertices;
 
 use command::Draw;
 use fifo::Fifo;

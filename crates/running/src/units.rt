@@ -1,7 +1,6 @@
 // The units of a run, until the limit, waiting or a refusal.
 use crate::Stop;
-use crate::loads;
-use crate::vertices;
+use crate::stretch;
 use command::Draw;
 use fifo::Fifo;
 use processor::StepAnswer;
@@ -44,7 +43,7 @@ fn stop_for(answer: StepAnswer) -> Stop
 
 // Takes units off the queue of a state that has passed 1 to 5:
 // "A run stops at its limit, at waiting or at a refusal, the limit tested first".
-// After each unit the whole vertices of a draw that it leaves open are taken in one move, and the loads that follow in one call.
+// Before each unit those that lie straight in the ring are taken in one call.
 pub(crate) fn take_units(
     fifo: Fifo,
     ring: &[u8],
@@ -64,32 +63,31 @@ pub(crate) fn take_units(
     let mut cursor = queue::open(fifo);
     let mut draw = first;
     let mut units: u32 = 0;
-    while units < limit {
-        let moved = processor::take_at(cursor, ring, cp, bp, draw, xf, buffer);
+    loop {
+        let ahead = stretch::take_stretch(cursor, ring, cp, bp, draw, xf, buffer, limit - units);
+        let next = ahead.cursor;
+        let open = ahead.draw;
+        units += ahead.units;
+        if limit <= units {
+            return Course {
+                fifo: queue::close(fifo, next),
+                draw: open,
+                units,
+                stop: Stop::Limit,
+            };
+        }
+        let moved = processor::take_at(next, ring, cp, bp, open, xf, buffer);
         let answer = moved.answer;
         let StepAnswer::Done { .. } = answer else {
             return Course {
-                fifo: queue::close(fifo, cursor),
-                draw,
+                fifo: queue::close(fifo, next),
+                draw: open,
                 units,
                 stop: stop_for(answer),
             };
         };
         units += 1;
-        let next = moved.cursor;
-        let open = moved.draw;
-        let batch = vertices::take_vertices(next, ring, cp, open, buffer, limit - units);
-        draw = batch.draw;
-        units += batch.units;
-        let after = batch.cursor;
-        let loads = loads::take_loads(after, ring, bp, xf, draw, limit - units);
-        cursor = loads.cursor;
-        units += loads.units;
-    }
-    Course {
-        fifo: queue::close(fifo, cursor),
-        draw,
-        units,
-        stop: Stop::Limit,
+        cursor = moved.cursor;
+        draw = moved.draw;
     }
 }

@@ -4,13 +4,13 @@
 use crate::machine::{Lent, Machine, Proved, RING};
 use crate::player::{empty, POINTER, START};
 use crate::random::Random;
-use crate::timing::Side;
+use crate::timing::{Side, Sides};
 use std::hint::black_box;
 use std::rc::Rc;
 
 /// Bytes of a feed. Feeds of 16 bytes and more go round the ring's end once in a
 /// timed part; the last is one feed that fills the ring.
-const SIZES: [usize; 6] = [1, 16, 64, 256, 4096, RING - 1];
+pub const SIZES: [usize; 6] = [1, 16, 64, 256, 4096, RING - 1];
 /// The most feeds of one timed part.
 const MOST: usize = 4096;
 /// The state word of the write pointer.
@@ -23,7 +23,7 @@ pub struct Feeds {
     pub bytes: usize,
     pub feeds: usize,
     /// The proved feed, the bare copy, the feed byte after byte.
-    pub sides: [Box<dyn Side>; 3],
+    pub sides: Sides,
 }
 
 /// What is fed, and how often: the same bytes at the same address for all.
@@ -130,12 +130,13 @@ impl Side for ByteAfterByte {
     }
 }
 
-/// Every size, once the proved feed and the one byte after byte left the same.
-pub fn feeds() -> Result<Vec<Feeds>, String> {
+/// Feeds of the sizes that are asked for, each once the proved feed and the one byte
+/// after byte left the same.
+pub fn feeds(sizes: &[usize]) -> Result<Vec<Feeds>, String> {
     let mut source = Lent::new();
     source.ring.copy_from_slice(&Random::new(8).bytes(RING));
     let source = Rc::new(*source);
-    let loads = SIZES.iter().map(|&bytes| Load {
+    let loads = sizes.iter().map(|&bytes| Load {
         source: Rc::clone(&source),
         bytes,
         feeds: MOST.min((RING - 1) / bytes),
@@ -143,19 +144,11 @@ pub fn feeds() -> Result<Vec<Feeds>, String> {
     loads.map(compared).collect()
 }
 
-fn compared(load: Load) -> Result<Feeds, String> {
-    let (bytes, feeds) = (load.bytes, load.feeds);
-    let mut proved = ProvedFeeds {
-        load: load.clone(),
-        machine: empty(),
-    };
-    let mut by_bytes = ByteAfterByte {
-        load: load.clone(),
-        lent: Lent::new(),
-        write: PLACE,
-        count: 0,
-    };
-    for feed in 1..=feeds {
+/// Feeds all of the load to both, and compares what is left.
+fn feed_both(proved: &mut ProvedFeeds, by_bytes: &mut ByteAfterByte) -> Result<(), String> {
+    let load = proved.load.clone();
+    let bytes = load.bytes;
+    for feed in 1..=load.feeds {
         let answer = proved.machine.feed(load.bytes());
         if answer != 0 {
             return Err(format!("feed {feed} of {bytes} bytes: refusal {answer}"));
@@ -174,6 +167,22 @@ fn compared(load: Load) -> Result<Feeds, String> {
     if proved.machine.lent().ring != by_bytes.lent.ring {
         return Err(format!("the rings after feeds of {bytes} bytes differ"));
     }
+    Ok(())
+}
+
+fn compared(load: Load) -> Result<Feeds, String> {
+    let (bytes, feeds) = (load.bytes, load.feeds);
+    let mut proved = ProvedFeeds {
+        load: load.clone(),
+        machine: empty(),
+    };
+    let mut by_bytes = ByteAfterByte {
+        load: load.clone(),
+        lent: Lent::new(),
+        write: PLACE,
+        count: 0,
+    };
+    feed_both(&mut proved, &mut by_bytes)?;
     let copies = Copies {
         load,
         out: Box::new(Straight([0xCC; 2 * RING])),
@@ -181,6 +190,6 @@ fn compared(load: Load) -> Result<Feeds, String> {
     Ok(Feeds {
         bytes,
         feeds,
-        sides: [Box::new(proved), Box::new(copies), Box::new(by_bytes)],
+        sides: vec![Box::new(proved), Box::new(copies), Box::new(by_bytes)],
     })
 }

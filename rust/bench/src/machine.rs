@@ -1,4 +1,4 @@
-//! The two implementations behind one trait, each with the memory it is lent.
+//! The implementations behind one trait, each with the memory it is lent.
 
 use model::words::{command_words, state_words, StateWords, UnitWords, STATE_WORDS, WAITING};
 use model::{Answer, End, Memory, Refusal, State, XF_WORDS};
@@ -6,8 +6,8 @@ use model::{Answer, End, Memory, Refusal, State, XF_WORDS};
 pub const RING: usize = 65_536;
 const VERTEX: usize = 129;
 
-/// Ring, XF words and vertex buffer. Aligned, so that neither implementation
-/// has the luckier places.
+/// Ring, XF words and vertex buffer. Aligned, so that no implementation has the
+/// luckier places.
 #[derive(Clone, PartialEq, Eq)]
 #[repr(C, align(4096))]
 pub struct Lent {
@@ -50,79 +50,98 @@ pub trait Machine {
     fn lent(&self) -> &Lent;
 }
 
-/// The proved library.
-#[repr(align(64))]
-pub struct Proved {
-    state: StateWords,
-    saved: StateWords,
-    lent: Box<Lent>,
-}
-
-impl Machine for Proved {
-    /// The answer number, the unit, the bytes lacking; 0 where they are not told.
-    type Step = (u32, UnitWords, u32);
-
-    fn fresh() -> Proved {
-        let mut state = [0; STATE_WORDS];
-        proved::fresh(&mut state);
-        Proved {
-            state,
-            saved: state,
-            lent: Lent::new(),
+/// Makes a machine of calls over state words.
+macro_rules! over_words {
+    ($(#[$about:meta])* $machine:ident, $calls:ident) => {
+        $(#[$about])*
+        #[repr(align(64))]
+        pub struct $machine {
+            state: StateWords,
+            saved: StateWords,
+            lent: Box<Lent>,
         }
-    }
 
-    fn read_register(&self, offset: u16) -> [u32; 2] {
-        let mut value = 0;
-        let answer = proved::read_register(&self.state, offset, &mut value);
-        [answer, value]
-    }
+        impl Machine for $machine {
+            /// The answer number, the unit, the bytes lacking; 0 where they are not told.
+            type Step = (u32, UnitWords, u32);
 
-    fn write_register(&mut self, offset: u16, value: u16) -> u32 {
-        proved::write_register(&mut self.state, offset, value)
-    }
+            fn fresh() -> $machine {
+                let mut state = [0; STATE_WORDS];
+                $calls::fresh(&mut state);
+                $machine {
+                    state,
+                    saved: state,
+                    lent: Lent::new(),
+                }
+            }
 
-    fn feed(&mut self, bytes: &[u8]) -> u32 {
-        proved::feed(&mut self.state, &mut self.lent.ring, bytes)
-    }
+            fn read_register(&self, offset: u16) -> [u32; 2] {
+                let mut value = 0;
+                let answer = $calls::read_register(&self.state, offset, &mut value);
+                [answer, value]
+            }
 
-    fn step(&mut self) -> (u32, UnitWords, u32) {
-        let Lent { ring, xf, vertex } = &mut *self.lent;
-        let mut unit = [0; 6];
-        let mut lacking = 0;
-        let number = proved::step(&mut self.state, ring, xf, vertex, &mut unit, &mut lacking);
-        (number, unit, lacking)
-    }
+            fn write_register(&mut self, offset: u16, value: u16) -> u32 {
+                $calls::write_register(&mut self.state, offset, value)
+            }
 
-    fn step_words(&(number, unit, lacking): &(u32, UnitWords, u32), _: u32) -> [u32; 8] {
-        let [kind, a, b, c, d, bytes] = unit;
-        [number, kind, a, b, c, d, bytes, lacking]
-    }
+            fn feed(&mut self, bytes: &[u8]) -> u32 {
+                $calls::feed(&mut self.state, &mut self.lent.ring, bytes)
+            }
 
-    fn run(&mut self, limit: u32) -> [u32; 3] {
-        let Lent { ring, xf, vertex } = &mut *self.lent;
-        let mut report = [0; 2];
-        let number = proved::run(&mut self.state, ring, xf, vertex, limit, &mut report);
-        let [units, lacking] = report;
-        [number, units, lacking]
-    }
+            fn step(&mut self) -> (u32, UnitWords, u32) {
+                let Lent { ring, xf, vertex } = &mut *self.lent;
+                let mut unit = [0; 6];
+                let mut lacking = 0;
+                let number =
+                    $calls::step(&mut self.state, ring, xf, vertex, &mut unit, &mut lacking);
+                (number, unit, lacking)
+            }
 
-    fn save(&mut self) {
-        self.saved = self.state;
-    }
+            fn step_words(&(number, unit, lacking): &(u32, UnitWords, u32), _: u32) -> [u32; 8] {
+                let [kind, a, b, c, d, bytes] = unit;
+                [number, kind, a, b, c, d, bytes, lacking]
+            }
 
-    fn reset(&mut self) {
-        self.state = self.saved;
-    }
+            fn run(&mut self, limit: u32) -> [u32; 3] {
+                let Lent { ring, xf, vertex } = &mut *self.lent;
+                let mut report = [0; 2];
+                let number = $calls::run(&mut self.state, ring, xf, vertex, limit, &mut report);
+                let [units, lacking] = report;
+                [number, units, lacking]
+            }
 
-    fn state_words(&self) -> StateWords {
-        self.state
-    }
+            fn save(&mut self) {
+                self.saved = self.state;
+            }
 
-    fn lent(&self) -> &Lent {
-        &self.lent
-    }
+            fn reset(&mut self) {
+                self.state = self.saved;
+            }
+
+            fn state_words(&self) -> StateWords {
+                self.state
+            }
+
+            fn lent(&self) -> &Lent {
+                &self.lent
+            }
+        }
+    };
 }
+
+over_words!(
+    /// The proved library.
+    Proved,
+    proved
+);
+
+#[cfg(hand_c)]
+over_words!(
+    /// The hand-tuned C.
+    Hand,
+    hand
+);
 
 /// The implementation in plain Rust.
 #[repr(align(64))]
@@ -141,7 +160,7 @@ fn memory(lent: &mut Lent) -> Memory<'_> {
 }
 
 /// 0, or the refusal's number.
-pub fn number<T>(answer: &Result<T, Refusal>) -> u32 {
+fn number<T>(answer: &Result<T, Refusal>) -> u32 {
     match answer {
         Ok(_) => 0,
         Err(refusal) => u32::from(refusal.number()),

@@ -1,8 +1,9 @@
-//! Times the proved library beside the implementation in plain Rust, and its feed
-//! beside a bare copy and beside a feed byte after byte, and prints markdown tables.
-//! Nothing is timed before what is compared was the same.
+//! Times the proved library beside hand-tuned C and beside the implementation in plain
+//! Rust, and its feed beside a bare copy and beside a feed byte after byte, and prints
+//! markdown tables. Nothing is timed before what is compared was the same.
 #![forbid(unsafe_code)]
 
+mod arguments;
 mod feeds;
 mod formats;
 mod machine;
@@ -10,136 +11,130 @@ mod player;
 mod random;
 mod rows;
 mod streams;
+mod tables;
 mod timing;
 mod vertices;
+mod which;
 
-use feeds::{feeds, Feeds};
-use rows::{lengths, rows, thousands, Lengths, Row};
+use arguments::{parse, Wish, USAGE};
+use feeds::{feeds, Feeds, SIZES};
+use rows::{lengths, rows, thousands, Lengths, Made, MadeLengths, Row};
 use std::process::ExitCode;
-use std::time::Duration;
-use timing::{clock_cost, difference, in_turn, median, ratio, Plan};
-
-const USAGE: &str = "usage: bench [--quick]";
-
-fn plan() -> Option<Plan> {
-    let arguments: Vec<String> = std::env::args().skip(1).collect();
-    match &arguments[..] {
-        [] => Some(Plan {
-            repetitions: 101,
-            least: Duration::from_micros(500),
-        }),
-        [quick] if quick == "--quick" => Some(Plan {
-            repetitions: 11,
-            least: Duration::from_micros(200),
-        }),
-        _ => None,
-    }
-}
+use tables::{print_feeds, print_lengths, print_preface, print_rows};
+use timing::{Plan, Side};
+use which::Which;
 
 fn main() -> ExitCode {
-    let Some(plan) = plan() else {
-        eprintln!("{USAGE}");
-        return ExitCode::from(2);
-    };
-    let compared = rows().and_then(|rows| Ok((rows, lengths()?, feeds()?)));
-    match compared {
-        Ok((rows, lengths, feeds)) => {
-            print_preface(&plan);
-            print_rows(rows, &plan);
-            print_lengths(lengths, &plan);
-            print_feeds(feeds, &plan);
+    let arguments: Vec<String> = std::env::args().skip(1).collect();
+    match parse(&arguments) {
+        Ok(Wish::Time { plan, only }) => time(&plan, &only),
+        Ok(Wish::Count { row, which, times }) => count(&row, which, times),
+        Ok(Wish::Help) => {
+            println!("{USAGE}");
             ExitCode::SUCCESS
         }
-        Err(what) => {
-            eprintln!("Not the same, so nothing was timed: {what}");
-            ExitCode::FAILURE
-        }
+        Err(what) => wrong(&what),
     }
 }
 
-fn print_preface(plan: &Plan) {
-    println!(
-        "Compared before timing, on the input of every row of the first two tables: each answer, the units \
-         done, and the state words, ring, XF words and vertex buffer left; all were the same. Of the third: \
-         every feed was accepted, and the proved feed and the one byte after byte left the same write pointer \
-         and ring."
-    );
-    println!();
-    println!(
-        "Medians of {} repetitions, each side at least {} µs; an empty timed part takes {:.0} ns.",
-        plan.repetitions,
-        plan.least.as_micros(),
-        clock_cost()
-    );
+/// A wrong command line.
+fn wrong(what: &str) -> ExitCode {
+    eprintln!("{what}\n{USAGE}");
+    ExitCode::from(2)
 }
 
-/// Nanoseconds with about three places that count.
-fn nanoseconds(time: f64) -> String {
-    let places = match time.abs() {
-        t if t < 1.0 => 4,
-        t if t < 100.0 => 2,
-        t if t < 1000.0 => 1,
-        _ => 0,
+fn differ(what: &str) -> ExitCode {
+    eprintln!("Not the same, so nothing was timed: {what}");
+    ExitCode::FAILURE
+}
+
+/// The rows of the three tables, all compared.
+struct Tables {
+    rows: Vec<(Row, Made)>,
+    lengths: Vec<(Lengths, MadeLengths)>,
+    feeds: Vec<Feeds>,
+}
+
+/// Those whose name holds the text. The names of the second and third table are as
+/// "run of BP loads" and "feed of 64 bytes".
+fn compared(only: &str) -> Result<Tables, String> {
+    let rows = rows().into_iter().filter(|row| row.name.contains(only));
+    let named = |stream: &Lengths| format!("run of {}", stream.name).contains(only);
+    let lengths = lengths().into_iter().filter(named);
+    let fed = |bytes: &usize| {
+        let name = format!("feed of {} bytes", thousands(*bytes as u64));
+        name.contains(only)
     };
-    format!("{time:.places$}")
+    let sizes: Vec<usize> = SIZES.into_iter().filter(fed).collect();
+    let rows: Result<_, String> = rows
+        .map(|row| row.make(Which::ALL).map(|made| (row, made)))
+        .collect();
+    let lengths: Result<_, String> = lengths
+        .map(|stream| stream.make().map(|made| (stream, made)))
+        .collect();
+    Ok(Tables {
+        rows: rows?,
+        lengths: lengths?,
+        feeds: feeds(&sizes)?,
+    })
 }
 
-fn print_rows(rows: Vec<Row>, plan: &Plan) {
-    println!();
-    println!("| Row | proved, ns | Rust, ns | ratio |");
-    println!("|---|---:|---:|---:|");
-    for Row { name, mut sides } in rows {
-        let times = in_turn(&mut sides, plan);
-        println!(
-            "| {name} | {} | {} | {:.2} |",
-            nanoseconds(median(&times[0])),
-            nanoseconds(median(&times[1])),
-            ratio(&times[0], &times[1])
-        );
+fn time(plan: &Plan, only: &str) -> ExitCode {
+    let tables = match compared(only) {
+        Ok(tables) => tables,
+        Err(what) => return differ(&what),
+    };
+    if tables.rows.is_empty() && tables.lengths.is_empty() && tables.feeds.is_empty() {
+        return wrong(&format!("--only: no row's name holds \"{only}\""));
+    }
+    print_preface(plan);
+    print_rows(tables.rows, plan);
+    print_lengths(tables.lengths, plan);
+    print_feeds(tables.feeds, plan);
+    ExitCode::SUCCESS
+}
+
+/// The row of that name, or the only one whose name holds it.
+fn row_named(name: &str) -> Result<Row, String> {
+    let mut rows = rows();
+    if let Some(at) = rows.iter().position(|row| row.name == name) {
+        return Ok(rows.swap_remove(at));
+    }
+    let all: Vec<String> = rows.iter().map(|row| row.name.clone()).collect();
+    rows.retain(|row| row.name.contains(name));
+    match rows.pop() {
+        Some(row) if rows.is_empty() => Ok(row),
+        _ => Err(format!(
+            "--count: \"{name}\" is not one row; the rows are\n  {}",
+            all.join("\n  ")
+        )),
     }
 }
 
-/// The second table. All lengths of a stream are timed in turn, and the last
-/// two columns compare each with the shortest.
-fn print_lengths(streams: [Lengths; 2], plan: &Plan) {
-    println!();
-    println!("| `run` of | bytes | units | proved, ns | Rust, ns | ratio | proved, to the shortest | Rust, to the shortest |");
-    println!("|---|---:|---:|---:|---:|---:|---:|---:|");
-    for mut stream in streams {
-        let times = in_turn(&mut stream.sides, plan);
-        for ((bytes, units), pair) in stream.sizes.into_iter().zip(times.chunks(2)) {
-            println!(
-                "| {} | {} | {} | {} | {} | {:.2} | {:.2} | {:.2} |",
-                stream.name,
-                thousands(bytes),
-                thousands(units),
-                nanoseconds(median(&pair[0])),
-                nanoseconds(median(&pair[1])),
-                ratio(&pair[0], &pair[1]),
-                ratio(&pair[0], &times[0]),
-                ratio(&pair[1], &times[1])
-            );
-        }
-    }
+/// One side's work, so often. A counter may be told to count this function alone.
+#[inline(never)]
+fn counted(side: &mut dyn Side) -> u64 {
+    side.work()
 }
 
-/// The third table. The three sides of a size are timed in turn.
-fn print_feeds(sizes: Vec<Feeds>, plan: &Plan) {
-    println!();
-    println!("| bytes of a feed | feeds | proved, ns | bare copy, ns | proved to copy | proved beyond copy, ns | byte after byte, ns | proved to it |");
-    println!("|---:|---:|---:|---:|---:|---:|---:|---:|");
-    for mut size in sizes {
-        let times = in_turn(&mut size.sides, plan);
-        println!(
-            "| {} | {} | {} | {} | {:.2} | {} | {} | {:.2} |",
-            thousands(size.bytes as u32),
-            thousands(size.feeds as u32),
-            nanoseconds(median(&times[0])),
-            nanoseconds(median(&times[1])),
-            ratio(&times[0], &times[1]),
-            nanoseconds(difference(&times[0], &times[1])),
-            nanoseconds(median(&times[2])),
-            ratio(&times[0], &times[2])
-        );
+fn count(name: &str, which: Which, times: u64) -> ExitCode {
+    let row = match row_named(name) {
+        Ok(row) => row,
+        Err(what) => return wrong(&what),
+    };
+    let mut made = match row.make(&[which]) {
+        Ok(made) => made,
+        Err(what) => return differ(&what),
+    };
+    let mut units = 0;
+    for _ in 0..times {
+        made.sides[0].reset();
+        units += counted(&mut *made.sides[0]);
     }
+    let (title, side) = (row.title(&made), which.name());
+    println!(
+        "{title}: {side}, {times} times, {} in all",
+        thousands(units)
+    );
+    ExitCode::SUCCESS
 }

@@ -1,9 +1,12 @@
 //! A machine brought to a row's start, what it does there, and the comparison
-//! of the two machines before anything is timed.
+//! of the machines before anything is timed.
 
+#[cfg(hand_c)]
+use crate::machine::Hand;
 use crate::machine::{Lent, Machine, Plain, Proved, RING};
 use crate::streams::Stream;
-use crate::timing::Side;
+use crate::timing::{Side, Sides};
+use crate::which::Which;
 use model::words::{StateWords, WAITING};
 use std::hint::black_box;
 
@@ -40,7 +43,7 @@ pub struct Input {
 
 impl Input {
     /// How many units the work must do.
-    fn units(&self) -> u64 {
+    pub fn units(&self) -> u64 {
         match &self.work {
             Work::Run => u64::from(self.stream.units),
             Work::Steps(times) | Work::Feeds(_, times) | Work::EmptyRuns(times) => {
@@ -98,7 +101,7 @@ impl<M: Machine> Side for Player<M> {
 }
 
 /// All that can be seen of a machine from its fresh state to the row's end.
-#[derive(PartialEq)]
+#[derive(Clone)]
 struct Seen {
     answers: Vec<u32>,
     units: u64,
@@ -207,7 +210,7 @@ fn bursts_told<M: Machine>(machine: &mut M, stream: &Stream, size: usize) -> (Ve
 
 /// A player at the row's start, and what was seen of the machine as it did the
 /// row's work once.
-fn prepare<M: Machine>(input: &Input) -> (Player<M>, Seen) {
+fn prepare<M: Machine + 'static>(input: &Input) -> (Box<dyn Side>, Seen) {
     let (mut machine, mut answers) = set_up::<M>(input);
     let (more, units) = answers_of(&mut machine, &input.work);
     answers.extend(more);
@@ -219,39 +222,49 @@ fn prepare<M: Machine>(input: &Input) -> (Player<M>, Seen) {
     };
     machine.reset();
     let work = input.work.clone();
-    (Player { machine, work }, seen)
+    (Box::new(Player { machine, work }), seen)
 }
 
 /// What differs first.
-fn difference(proved: &Seen, plain: &Seen) -> Option<String> {
+fn difference(these: &Seen, those: &Seen) -> Option<String> {
     let parts = [
-        ("answers", proved.answers == plain.answers),
-        ("units", proved.units == plain.units),
-        ("ring", proved.lent.ring == plain.lent.ring),
-        ("XF words", proved.lent.xf == plain.lent.xf),
-        ("vertex buffer", proved.lent.vertex == plain.lent.vertex),
+        ("answers", these.answers == those.answers),
+        ("units", these.units == those.units),
+        ("ring", these.lent.ring == those.lent.ring),
+        ("XF words", these.lent.xf == those.lent.xf),
+        ("vertex buffer", these.lent.vertex == those.lent.vertex),
     ];
     if let Some((part, _)) = parts.iter().find(|part| !part.1) {
         return Some(format!("the {part} differ"));
     }
-    let words = proved.state.iter().zip(&plain.state);
+    let words = these.state.iter().zip(&those.state);
     let word = words.into_iter().position(|(a, b)| a != b)?;
     Some(format!("state word {word} differs"))
 }
 
-/// The two sides of a row: the proved library, then plain Rust.
-pub type Sides = [Box<dyn Side>; 2];
-
-/// Both sides of a row, once both did the same and all that was planned.
-pub fn sides(input: &Input) -> Result<Sides, String> {
-    let (proved, by_proved) = prepare::<Proved>(input);
-    let (plain, by_plain) = prepare::<Plain>(input);
-    if let Some(what) = difference(&by_proved, &by_plain) {
-        return Err(what);
+/// The sides of a row that are asked for, once all did the same and all that was
+/// planned.
+pub fn sides(input: &Input, which: &[Which]) -> Result<Sides, String> {
+    let mut sides: Sides = Vec::new();
+    let mut first = None;
+    for &which in which {
+        let (side, seen) = match which {
+            Which::Proved => prepare::<Proved>(input),
+            #[cfg(hand_c)]
+            Which::C => prepare::<Hand>(input),
+            Which::Rust => prepare::<Plain>(input),
+        };
+        sides.push(side);
+        if seen.units != input.units() {
+            let (done, planned) = (seen.units, input.units());
+            let name = which.name();
+            return Err(format!("{name}: {done} units were done, {planned} planned"));
+        }
+        let first = first.get_or_insert_with(|| (which, seen.clone()));
+        if let Some(what) = difference(&first.1, &seen) {
+            let (these, those) = (first.0.name(), which.name());
+            return Err(format!("{these} and {those}: {what}"));
+        }
     }
-    if by_plain.units != input.units() {
-        let (done, planned) = (by_plain.units, input.units());
-        return Err(format!("{done} units were done and {planned} planned"));
-    }
-    Ok([Box::new(proved), Box::new(plain)])
+    Ok(sides)
 }

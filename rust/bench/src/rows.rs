@@ -2,13 +2,14 @@
 
 use crate::formats::{LONGEST, ONE_BYTE, TWELVE_BYTES};
 use crate::machine::RING;
-use crate::player::{sides, Input, Sides, Work};
+use crate::player::{sides, Input, Work};
 use crate::random::Random;
 use crate::streams::{
     bp_loads, cp_loads, draws, long_draw, mixed, no_operations, repeated, xf_loads, Stream,
 };
-use crate::timing::Side;
-use crate::vertices::{layouts, positions};
+use crate::timing::Sides;
+use crate::vertices::{attributes, layouts, positions};
+use crate::which::Which;
 use model::words::FormatWords;
 
 /// The most bytes that a ring holds.
@@ -21,40 +22,45 @@ const DRAW_SIZES: [u32; 3] = [3, 100, LONG];
 const BURSTS: [usize; 3] = [32, 256, 4096];
 /// How many runs of limit 0 one timed part has.
 const EMPTY_RUNS: u32 = 1000;
-const VERTICES: [(u32, FormatWords); 3] = [(1, ONE_BYTE), (12, TWELVE_BYTES), (129, LONGEST)];
+const VERTICES: [(usize, FormatWords); 3] = [(1, ONE_BYTE), (12, TWELVE_BYTES), (129, LONGEST)];
 
 /// A row whose sides were compared.
-pub struct Row {
-    pub name: String,
+pub struct Made {
+    /// How many units a timed part has, where that is told.
+    count: Option<u64>,
     pub sides: Sides,
 }
 
-/// One stream at several lengths, for the second table.
-pub struct Lengths {
-    pub name: &'static str,
-    /// Bytes and units.
-    pub sizes: Vec<(u32, u32)>,
-    /// The two sides of each length, one after the other.
-    pub sides: Vec<Box<dyn Side>>,
+type Make = Box<dyn Fn(&[Which]) -> Result<Made, String>>;
+
+/// A row of the first table.
+pub struct Row {
+    pub name: String,
+    /// What a time is of.
+    per: &'static str,
+    make: Make,
 }
 
-fn row(name: String, sides: Result<Sides, String>) -> Result<Row, String> {
-    match sides {
-        Ok(sides) => Ok(Row { name, sides }),
-        Err(what) => Err(format!("{name}: {what}")),
+impl Row {
+    /// The sides that are asked for, once they did the same.
+    pub fn make(&self, which: &[Which]) -> Result<Made, String> {
+        (self.make)(which).map_err(|what| format!("{}: {what}", self.name))
+    }
+
+    /// The name, and what the times of its sides are of.
+    pub fn title(&self, made: &Made) -> String {
+        let (name, per) = (&self.name, self.per);
+        match made.count {
+            Some(count) if count > 1 => {
+                format!("{name}, per {per} ({} {per}s)", thousands(count))
+            }
+            _ => format!("{name}, per {per}"),
+        }
     }
 }
 
-fn run(preamble: Stream, stream: Stream) -> Result<Sides, String> {
-    sides(&Input {
-        preamble,
-        stream,
-        work: Work::Run,
-    })
-}
-
 /// A number with commas.
-pub fn thousands(number: u32) -> String {
+pub fn thousands(number: u64) -> String {
     if number < 1000 {
         number.to_string()
     } else {
@@ -62,138 +68,192 @@ pub fn thousands(number: u32) -> String {
     }
 }
 
-/// All rows of the first table.
-pub fn rows() -> Result<Vec<Row>, String> {
-    let mut rows = vec![
-        stream_row("BP loads", bp_loads(ROOM))?,
-        stream_row("XF loads of 16 words", xf_loads(ROOM))?,
-    ];
-    for count in DRAW_SIZES {
-        for (length, words) in VERTICES {
-            rows.push(draw_row(count, length, &words)?);
-        }
+/// A row of a machine; its input is made when it is needed.
+fn machine_row(
+    name: impl Into<String>,
+    per: &'static str,
+    input: impl Fn() -> Input + 'static,
+) -> Row {
+    let make = move |which: &[Which]| {
+        let input = input();
+        Ok(Made {
+            count: Some(input.units()),
+            sides: sides(&input, which)?,
+        })
+    };
+    Row {
+        name: name.into(),
+        per,
+        make: Box::new(make),
     }
-    rows.push(stream_row("mixed stream", mixed(ROOM))?);
-    rows.push(stream_row("CP loads", cp_loads(ROOM))?);
-    rows.push(stream_row("no-operations", no_operations(ROOM / 2))?);
-    rows.extend(feed_rows()?);
-    rows.push(step_row()?);
-    rows.push(empty_run_row()?);
-    for size in BURSTS {
-        rows.push(burst_row(size)?);
-    }
-    rows.push(row("layout, per layout".into(), layouts())?);
-    rows.push(row(
-        "position of three s16, per decode".into(),
-        positions(),
-    )?);
-    Ok(rows)
 }
 
-fn stream_row(what: &str, stream: Stream) -> Result<Row, String> {
-    let name = format!("{what}, per unit ({} units)", thousands(stream.units));
-    row(name, run(Stream::default(), stream))
+/// A row without a machine.
+fn plain_row(name: &str, per: &'static str, sides: fn(&[Which]) -> Result<Sides, String>) -> Row {
+    let make = move |which: &[Which]| {
+        let sides = sides(which)?;
+        Ok(Made { count: None, sides })
+    };
+    Row {
+        name: name.into(),
+        per,
+        make: Box::new(make),
+    }
+}
+
+/// One run of a stream.
+fn run_of(preamble: Stream, stream: Stream) -> Input {
+    Input {
+        preamble,
+        stream,
+        work: Work::Run,
+    }
+}
+
+/// Work that begins with an empty ring.
+fn from_empty(work: Work) -> Input {
+    Input {
+        preamble: Stream::default(),
+        stream: Stream::default(),
+        work,
+    }
+}
+
+/// All rows of the first table.
+pub fn rows() -> Vec<Row> {
+    let mut rows = vec![
+        stream_row("BP loads", || bp_loads(ROOM)),
+        stream_row("CP loads", || cp_loads(ROOM)),
+        stream_row("XF loads of 16 words", || xf_loads(ROOM)),
+        stream_row("no-operations", || no_operations(ROOM / 2)),
+    ];
+    for count in DRAW_SIZES {
+        rows.extend(VERTICES.map(|(length, words)| draw_row(count, length, words)));
+    }
+    rows.push(stream_row("mixed stream", || mixed(ROOM)));
+    rows.extend(BURSTS.map(burst_row));
+    rows.extend(feed_rows());
+    rows.push(step_row());
+    rows.push(machine_row("run of limit 0", "run", || {
+        from_empty(Work::EmptyRuns(EMPTY_RUNS))
+    }));
+    rows.push(plain_row("layout", "layout", layouts));
+    rows.push(plain_row("position of three s16", "decode", positions));
+    rows.push(plain_row(
+        "21 decodes of a 129-byte vertex",
+        "vertex",
+        attributes,
+    ));
+    rows
+}
+
+fn stream_row(name: &str, stream: fn() -> Stream) -> Row {
+    machine_row(name, "unit", move || run_of(Stream::default(), stream()))
 }
 
 /// As many draws as fit, or the part of a long one that does.
-fn draw_row(count: u32, length: u32, words: &FormatWords) -> Result<Row, String> {
-    let mut preamble = Stream::default();
-    preamble.set_format(0, words);
-    let (draws, stream) = if count < LONG {
-        ("draws", draws(ROOM, words, count))
-    } else {
-        ("one draw", long_draw(ROOM, words, count))
-    };
-    let open = if stream.units <= count {
+fn draw_row(count: u32, length: usize, words: FormatWords) -> Row {
+    let long = count == LONG;
+    let draws_of = if long { "one draw" } else { "draws" };
+    let open = if 3 + length * count as usize > ROOM {
         ", left open"
     } else {
         ""
     };
-    let name = format!(
-        "{draws} of {} {length}-byte vertices{open}, per unit ({} units)",
-        thousands(count),
-        thousands(stream.units),
-    );
-    row(name, run(preamble, stream))
-}
-
-/// Work that begins with an empty ring.
-fn from_empty(work: Work) -> Result<Sides, String> {
-    sides(&Input {
-        preamble: Stream::default(),
-        stream: Stream::default(),
-        work,
+    let count_told = thousands(count.into());
+    let name = format!("{draws_of} of {count_told} {length}-byte vertices{open}");
+    machine_row(name, "unit", move || {
+        let mut preamble = Stream::default();
+        preamble.set_format(0, &words);
+        let stream = if long {
+            long_draw(ROOM, &words, count)
+        } else {
+            draws(ROOM, &words, count)
+        };
+        run_of(preamble, stream)
     })
 }
 
 /// A feed that fills the ring and wraps, and small feeds until it is full.
-fn feed_rows() -> Result<[Row; 2], String> {
-    let mut random = Random::new(7);
-    let full = random.bytes(ROOM);
-    let small = random.bytes(64);
-    let times = (ROOM / small.len()) as u32;
-    let name = format!("feeds of 64 bytes, per feed ({} feeds)", thousands(times));
-    Ok([
-        row(
-            "wrapped feed of 65,535 bytes, per feed".into(),
-            from_empty(Work::Feeds(full, 1)),
-        )?,
-        row(name, from_empty(Work::Feeds(small, times)))?,
-    ])
+fn feed_rows() -> [Row; 2] {
+    [
+        machine_row("wrapped feed of 65,535 bytes", "feed", || {
+            let full = Random::new(7).bytes(ROOM);
+            from_empty(Work::Feeds(full, 1))
+        }),
+        machine_row("feeds of 64 bytes", "feed", || {
+            let small = Random::new(7).bytes(64);
+            let times = ROOM / small.len();
+            from_empty(Work::Feeds(small, times as u32))
+        }),
+    ]
 }
 
-fn step_row() -> Result<Row, String> {
-    let stream = mixed(ROOM);
-    let steps = stream.units;
-    let name = format!(
-        "single steps through the mixed stream, per step ({} steps)",
-        thousands(steps)
-    );
-    let input = Input {
-        preamble: Stream::default(),
-        stream,
-        work: Work::Steps(steps),
-    };
-    row(name, sides(&input))
+fn step_row() -> Row {
+    machine_row("single steps through the mixed stream", "step", || {
+        let stream = mixed(ROOM);
+        let steps = stream.units;
+        Input {
+            preamble: Stream::default(),
+            stream,
+            work: Work::Steps(steps),
+        }
+    })
 }
 
-fn empty_run_row() -> Result<Row, String> {
-    let name = format!("run of limit 0, per run ({} runs)", thousands(EMPTY_RUNS));
-    row(name, from_empty(Work::EmptyRuns(EMPTY_RUNS)))
+fn burst_row(size: usize) -> Row {
+    let bytes = thousands(size as u64);
+    let name = format!("mixed stream in bursts of {bytes} bytes, a feed and a run");
+    machine_row(name, "burst", move || {
+        from_empty(Work::Bursts(mixed(ROOM), size))
+    })
 }
 
-fn burst_row(size: usize) -> Result<Row, String> {
-    let stream = mixed(ROOM);
-    let name = format!(
-        "mixed stream in bursts of {} bytes, a feed and a run, per burst ({} bursts)",
-        thousands(size as u32),
-        thousands(stream.bytes.chunks(size).len() as u32)
-    );
-    row(name, from_empty(Work::Bursts(stream, size)))
+/// One stream at several lengths, for the second table.
+pub struct Lengths {
+    pub name: &'static str,
+    once: fn() -> Stream,
+}
+
+/// The lengths of a stream whose sides were compared.
+pub struct MadeLengths {
+    /// Bytes and units.
+    pub sizes: Vec<(usize, u32)>,
+    /// The sides of each length, one after the other.
+    pub sides: Sides,
 }
 
 /// The second table: a stream once, four times and sixteen times, so that all
 /// lengths have the same units in the same order.
-pub fn lengths() -> Result<[Lengths; 2], String> {
-    Ok([
-        lengths_of("BP loads", &bp_loads(SIXTEENTH))?,
-        lengths_of("mixed stream", &mixed(SIXTEENTH))?,
-    ])
+pub fn lengths() -> [Lengths; 2] {
+    [
+        Lengths {
+            name: "BP loads",
+            once: || bp_loads(SIXTEENTH),
+        },
+        Lengths {
+            name: "mixed stream",
+            once: || mixed(SIXTEENTH),
+        },
+    ]
 }
 
-fn lengths_of(name: &'static str, once: &Stream) -> Result<Lengths, String> {
-    let mut lengths = Lengths {
-        name,
-        sizes: Vec::new(),
-        sides: Vec::new(),
-    };
-    for times in [1, 4, 16] {
-        let stream = repeated(once, times);
-        let bytes = stream.bytes.len() as u32;
-        lengths.sizes.push((bytes, stream.units));
-        let sides = run(Stream::default(), stream);
-        let sides = sides.map_err(|what| format!("{name} of {bytes} bytes: {what}"))?;
-        lengths.sides.extend(sides);
+impl Lengths {
+    pub fn make(&self) -> Result<MadeLengths, String> {
+        let mut made = MadeLengths {
+            sizes: Vec::new(),
+            sides: Vec::new(),
+        };
+        let once = (self.once)();
+        for times in [1, 4, 16] {
+            let stream = repeated(&once, times);
+            let bytes = stream.bytes.len();
+            made.sizes.push((bytes, stream.units));
+            let sides = sides(&run_of(Stream::default(), stream), Which::ALL);
+            let name = self.name;
+            made.sides
+                .extend(sides.map_err(|what| format!("{name} of {bytes} bytes: {what}"))?);
+        }
+        Ok(made)
     }
-    Ok(lengths)
 }

@@ -1,19 +1,50 @@
-//! The rows without a machine: layouts and one attribute.
+//! The rows without a machine: layouts and attributes.
 
 use crate::formats::{vertex_length, LONGEST, ONE_BYTE, POSITION_S16, TWELVE_BYTES, USUAL};
-use crate::machine::number;
-use crate::player::Sides;
 use crate::random::Random;
-use crate::timing::Stateless;
-use model::words::{format_of, FormatWords};
-use model::{decode, layout, Attribute, Layout, Refusal, ATTRIBUTES};
+use crate::timing::{Side, Sides, Stateless};
+use crate::which::Which;
+use model::words::{self, format_of, FormatWords, ValueWords};
+use model::{decode, layout, ATTRIBUTES};
 use std::hint::black_box;
 
 /// How often a timed part goes through its inputs.
 const ROUNDS: usize = 100;
-const POSITION: u8 = 9;
-const POSITION_KIND: u32 = 5;
+const POSITION: u32 = 9;
+/// The vertices of a timed part.
+const VERTICES: usize = 64;
 
+/// The sides that are asked for, once what they tell of every input is the same.
+fn compared<T: std::fmt::Debug, V: PartialEq>(
+    which: &[Which],
+    inputs: &[T],
+    told: impl Fn(Which, &T) -> V,
+    side: impl Fn(Which) -> Box<dyn Side>,
+) -> Result<Sides, String> {
+    for input in inputs {
+        let differs = |&&other: &&Which| told(other, input) != told(which[0], input);
+        if let Some(other) = which.iter().find(differs) {
+            let (these, those) = (which[0].name(), other.name());
+            return Err(format!("{these} and {those} differ at {input:X?}"));
+        }
+    }
+    Ok(which.iter().map(|&which| side(which)).collect())
+}
+
+/// A side that does the same for each input, again and again.
+fn again<T: Clone + 'static>(inputs: &[T], work: impl Fn(&T) + 'static) -> Box<dyn Side> {
+    let inputs = inputs.to_vec();
+    let times = ROUNDS * inputs.len();
+    Box::new(Stateless(move || {
+        for input in inputs.iter().cycle().take(times) {
+            work(black_box(input));
+        }
+        times as u64
+    }))
+}
+
+/// As it is told.
+#[derive(PartialEq)]
 struct LaidOut {
     answer: u32,
     sizes: [u8; ATTRIBUTES],
@@ -21,100 +52,122 @@ struct LaidOut {
     length: u32,
 }
 
-fn proved_layout(words: &FormatWords) -> LaidOut {
+fn laid_out(
+    call: impl Fn(&FormatWords, &mut [u8; ATTRIBUTES], &mut [u8; ATTRIBUTES], &mut u32) -> u32,
+    format: &FormatWords,
+) -> LaidOut {
     let mut laid = LaidOut {
         answer: 0,
         sizes: [0; ATTRIBUTES],
         offsets: [0; ATTRIBUTES],
         length: 0,
     };
-    laid.answer = proved::lay_out(words, &mut laid.sizes, &mut laid.offsets, &mut laid.length);
+    laid.answer = call(format, &mut laid.sizes, &mut laid.offsets, &mut laid.length);
     laid
 }
 
-fn same_layout(proved: &LaidOut, plain: &Result<Layout, Refusal>) -> bool {
-    let Ok(layout) = plain else {
-        return false;
-    };
-    proved.answer == number(plain)
-        && proved.length == u32::from(layout.length)
-        && proved.sizes == layout.bytes
-        && proved.offsets == layout.before
-}
-
 /// Eight formats laid out, one after the other.
-pub fn layouts() -> Result<Sides, String> {
+pub fn layouts(which: &[Which]) -> Result<Sides, String> {
     let mut formats = vec![ONE_BYTE, TWELVE_BYTES, LONGEST];
     formats.extend(USUAL);
-    let plain_formats: Vec<_> = formats.iter().map(format_of).collect();
-    for (words, format) in formats.iter().zip(&plain_formats) {
-        if !same_layout(&proved_layout(words), &layout(format)) {
-            return Err(format!("the layouts of {words:X?} differ"));
+    let told = |which, format: &FormatWords| match which {
+        Which::Proved => laid_out(proved::lay_out, format),
+        #[cfg(hand_c)]
+        Which::C => laid_out(hand::lay_out, format),
+        Which::Rust => laid_out(words::lay_out, format),
+    };
+    let side = |which| match which {
+        Which::Proved => again(&formats, |format| {
+            black_box(laid_out(proved::lay_out, format));
+        }),
+        #[cfg(hand_c)]
+        Which::C => again(&formats, |format| {
+            black_box(laid_out(hand::lay_out, format));
+        }),
+        Which::Rust => {
+            let formats: Vec<_> = formats.iter().map(format_of).collect();
+            again(&formats, |format| {
+                let _ = black_box(layout(format));
+            })
         }
+    };
+    compared(which, &formats, told, side)
+}
+
+type Decoded = (u32, ValueWords);
+
+fn decoded(
+    call: impl Fn(&FormatWords, u32, &[u8], &mut ValueWords) -> u32,
+    format: &FormatWords,
+    attribute: u32,
+    vertex: &[u8],
+) -> Decoded {
+    let mut values = [0; 10];
+    let answer = call(format, attribute, vertex, &mut values);
+    (answer, values)
+}
+
+/// One attribute as a side tells it.
+fn told_one(which: Which, format: &FormatWords, attribute: u32, vertex: &[u8]) -> Decoded {
+    match which {
+        Which::Proved => decoded(proved::decode, format, attribute, vertex),
+        #[cfg(hand_c)]
+        Which::C => decoded(hand::decode, format, attribute, vertex),
+        Which::Rust => decoded(words::decode, format, attribute, vertex),
     }
-    let proved = move || {
-        for words in formats.iter().cycle().take(ROUNDS * formats.len()) {
-            black_box(proved_layout(black_box(words)));
-        }
-        (ROUNDS * formats.len()) as u64
-    };
-    let plain = move || {
-        for format in plain_formats
-            .iter()
-            .cycle()
-            .take(ROUNDS * plain_formats.len())
-        {
-            let _ = black_box(layout(black_box(format)));
-        }
-        (ROUNDS * plain_formats.len()) as u64
-    };
-    Ok([Box::new(Stateless(proved)), Box::new(Stateless(plain))])
 }
 
-fn proved_position(vertex: &[u8]) -> (u32, [u32; 10]) {
-    let mut answer = [0; 10];
-    let number = proved::decode(&POSITION_S16, POSITION.into(), vertex, &mut answer);
-    (number, answer)
-}
-
-fn plain_position(vertex: &[u8]) -> Result<Attribute, Refusal> {
-    decode(&format_of(&POSITION_S16), POSITION, vertex)
-}
-
-fn same_position(proved: &(u32, [u32; 10]), plain: &Result<Attribute, Refusal>) -> bool {
-    let Ok(Attribute::Position(position)) = plain else {
-        return false;
-    };
-    let [x, y, z] = [position.x, position.y, position.z].map(f32::to_bits);
-    *proved == (0, [POSITION_KIND, x, y, z, 0, 0, 0, 0, 0, 0])
-}
-
-/// The position of 64 vertices, three s16 each.
-pub fn positions() -> Result<Sides, String> {
+/// Vertices of one format, by chance.
+fn vertices(format: &FormatWords) -> Vec<Vec<u8>> {
     let mut random = Random::new(6);
-    let length = vertex_length(&POSITION_S16);
-    let vertices: Vec<Vec<u8>> = (0..64).map(|_| random.bytes(length)).collect();
-    for vertex in &vertices {
-        if !same_position(&proved_position(vertex), &plain_position(vertex)) {
-            return Err(format!("the positions of {vertex:X?} differ"));
-        }
-    }
-    let plain_vertices = vertices.clone();
-    let proved = move || {
-        for vertex in vertices.iter().cycle().take(ROUNDS * vertices.len()) {
-            black_box(proved_position(black_box(vertex)));
-        }
-        (ROUNDS * vertices.len()) as u64
+    let length = vertex_length(format);
+    (0..VERTICES).map(|_| random.bytes(length)).collect()
+}
+
+/// A row that decodes attributes of vertices of one format, a call for each.
+fn decodes(
+    which: &[Which],
+    format: FormatWords,
+    attributes: std::ops::Range<u32>,
+) -> Result<Sides, String> {
+    let vertices = vertices(&format);
+    let numbers = attributes.clone();
+    let told = |which, vertex: &Vec<u8>| -> Vec<Decoded> {
+        let numbers = numbers.clone();
+        numbers
+            .map(|k| told_one(which, &format, k, vertex))
+            .collect()
     };
-    let plain = move || {
-        for vertex in plain_vertices
-            .iter()
-            .cycle()
-            .take(ROUNDS * plain_vertices.len())
-        {
-            let _ = black_box(plain_position(black_box(vertex)));
+    let side = |which| {
+        let numbers = attributes.clone();
+        match which {
+            Which::Proved => again(&vertices, move |vertex| {
+                for k in numbers.clone() {
+                    black_box(decoded(proved::decode, &format, black_box(k), vertex));
+                }
+            }),
+            #[cfg(hand_c)]
+            Which::C => again(&vertices, move |vertex| {
+                for k in numbers.clone() {
+                    black_box(decoded(hand::decode, &format, black_box(k), vertex));
+                }
+            }),
+            Which::Rust => again(&vertices, move |vertex| {
+                for k in numbers.clone() {
+                    let _ = black_box(decode(&format_of(&format), black_box(k) as u8, vertex));
+                }
+            }),
         }
-        (ROUNDS * plain_vertices.len()) as u64
     };
-    Ok([Box::new(Stateless(proved)), Box::new(Stateless(plain))])
+    compared(which, &vertices, told, side)
+}
+
+/// The position of vertices of three s16.
+pub fn positions(which: &[Which]) -> Result<Sides, String> {
+    decodes(which, POSITION_S16, POSITION..POSITION + 1)
+}
+
+/// All attributes of the longest vertices, one after the other.
+pub fn attributes(which: &[Which]) -> Result<Sides, String> {
+    decodes(which, LONGEST, 0..ATTRIBUTES as u32)
 }

@@ -1,6 +1,7 @@
 //! Two sides at work on the same calls, compared after each.
 
 use crate::call::{Call, Patch};
+use crate::course::Run;
 use crate::difference::Made;
 use crate::random::Random;
 use crate::side::Side;
@@ -120,9 +121,24 @@ impl Duo {
         self.fault = made
             .fault()
             .map(|fault| format!("call {number}, in \"{scenario}\", {fault}"));
+        if self.fault.is_none() {
+            self.count_course(&calls[0], answers[0]);
+        }
         self.before.copy_from(&self.worlds[0]);
         let [first, _] = calls;
         (answers[0], first)
+    }
+
+    /// Counts what a run went through.
+    fn count_course(&mut self, call: &Call, answer: u32) {
+        if let Call::Run { report, .. } = call {
+            self.tally.count_course(&Run {
+                before: &self.before,
+                after: &self.worlds[0],
+                answer,
+                units: report[0],
+            });
+        }
     }
 
     pub fn fresh(&mut self) {

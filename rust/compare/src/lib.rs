@@ -4,6 +4,7 @@
 #![forbid(unsafe_code)]
 
 pub mod call;
+mod course;
 mod difference;
 pub mod duo;
 mod formats;

@@ -83,6 +83,12 @@ fn set_window(duo: &mut Duo, random: &mut Random, ring: &Ring) {
     }
 }
 
+/// Moves the read pointer past bytes, as a caller would after a refusal.
+pub fn skip(duo: &mut Duo, ring: &Ring, bytes: u32) {
+    let place = duo.world().state[word::READ] - ring.start + bytes;
+    duo.poke(word::READ, ring.start + place % ring.size);
+}
+
 /// Words that no call looks at: the marks, and a draw's while none is open.
 pub fn leave_stale_words(duo: &mut Duo, random: &mut Random) {
     if random.once_in(2) {

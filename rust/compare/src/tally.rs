@@ -1,6 +1,7 @@
 //! How many calls of each kind were made, and what they answered.
 
 use crate::call::{Call, Kind, KINDS};
+use crate::course::{Mark, Run, CASES, LIES, MOST_ZEROS, WORDS};
 use model::words::{FormatWords, DONE, WAITING};
 use std::collections::BTreeMap;
 
@@ -51,6 +52,8 @@ pub struct Tally {
     lacking: Counts<u32>,
     /// Units that runs did.
     run_units: u64,
+    /// What runs went through.
+    marks: Counts<Mark>,
 }
 
 fn add<K: Ord>(counts: &mut Counts<K>, key: K) {
@@ -101,6 +104,13 @@ impl Tally {
         }
     }
 
+    /// Counts what a run went through that both sides did alike.
+    pub fn count_course(&mut self, run: &Run) {
+        for mark in run.marks() {
+            add(&mut self.marks, mark);
+        }
+    }
+
     fn count_normal(&mut self, call: &Call) {
         let (Call::Decode {
             format, attribute, ..
@@ -123,9 +133,18 @@ impl Tally {
         self.answers.range(range).map(|(_, count)| count).sum()
     }
 
+    /// All that was not reached: of the answers, and what no run went through.
+    pub fn unreached(&self) -> Vec<String> {
+        let mut unreached = self.unreached_answers();
+        let mut marks = Mark::all();
+        marks.retain(|mark| !self.marks.contains_key(mark));
+        unreached.extend(marks.iter().map(|mark| format!("a run: {}", mark.told())));
+        unreached
+    }
+
     /// The answers that a call can give and did not, and the kinds of units,
     /// commands, attributes and normals that did not come up.
-    pub fn unreached(&self) -> Vec<String> {
+    pub fn unreached_answers(&self) -> Vec<String> {
         let mut unreached = Vec::new();
         for kind in KINDS {
             for &answer in kind.answers() {
@@ -203,6 +222,33 @@ impl Tally {
             "waiting: {} numbers of bytes lacking, at most {most}",
             self.lacking.len()
         );
+        self.print_marks();
+    }
+
+    fn print_marks(&self) {
+        let of = |mark: Mark| times(&self.marks, &mark);
+        println!(
+            "draws by runs after a load of one word of their format (of other bytes, refused):"
+        );
+        let words: String = (0..)
+            .zip(WORDS)
+            .map(|(at, word)| {
+                let (other, refused) = (of(Mark::DrawAfter(at)), of(Mark::RefusedAfter(at)));
+                format!("  {word}:{other},{refused}")
+            })
+            .collect();
+        println!("{words}");
+        let addresses = (0..=255).filter(|&address| of(Mark::CpLoad(address)) != 0);
+        println!("CP addresses between draws of a run: {}", addresses.count());
+        println!("lengths of zeros in a row that a run took, 1 to {MOST_ZEROS}:");
+        for lie in LIES {
+            let lengths = (1..=MOST_ZEROS).filter(|&zeros| of(Mark::Zeros(zeros, lie)) != 0);
+            println!("  {:<22}{}", lie.told(), lengths.count());
+        }
+        println!("runs with:");
+        for case in CASES {
+            println!("  {:>8} {case}", of(Mark::Case(case)));
+        }
     }
 
     /// The normals that a call took apart, by format.

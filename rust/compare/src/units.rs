@@ -57,8 +57,28 @@ impl Units {
         }
     }
 
-    fn cp_load(&mut self, address: u8, number: u32) {
+    /// A CP load; the registers that rule vertices follow it.
+    pub fn cp_load(&mut self, address: u8, number: u32) {
         self.units.push(bytes_of(&[0x08, address], &[number]));
+        if let (group @ 5..=9, low) = (address >> 4, address & 15) {
+            if group < 7 || low < 8 {
+                self.follow(usize::from(group - 5), low & 7, number);
+            }
+        }
+    }
+
+    /// One of a format's five words becomes this; those of the VCD are every
+    /// format's.
+    pub fn follow(&mut self, at: usize, format: u8, number: u32) {
+        match at {
+            0 | 1 => self.cp.vcd[at] = number,
+            _ => self.cp.vat[usize::from(format)][at - 2] = number,
+        }
+    }
+
+    /// Loads one of a format's five words.
+    pub fn load_word(&mut self, at: usize, format: u8, number: u32) {
+        self.cp_load((0x50 + 0x10 * at as u8) | format, number);
     }
 
     fn add_cp_load(&mut self, random: &mut Random) {
@@ -69,9 +89,9 @@ impl Units {
             2 => self.cp_load(0xA0 | low, random.word()),
             3 => self.cp_load(0xB0 | low, random.word()),
             4 => {
-                self.cp.vcd = good_vcd(random);
-                self.cp_load(0x50 | low, self.cp.vcd[0]);
-                self.cp_load(0x60 | random.u8() & 15, self.cp.vcd[1]);
+                let vcd = good_vcd(random);
+                self.cp_load(0x50 | low, vcd[0]);
+                self.cp_load(0x60 | random.u8() & 15, vcd[1]);
             }
             _ => {
                 let format = random.below(8) as u8;
@@ -80,7 +100,6 @@ impl Units {
                 // One group at a time or all three.
                 for each in 0..3 {
                     if each == group || random.once_in(2) {
-                        self.cp.vat[format as usize][each as usize] = vat[each as usize];
                         self.cp_load((0x70 + 0x10 * each) | format, vat[each as usize]);
                     }
                 }
@@ -88,7 +107,7 @@ impl Units {
         }
     }
 
-    fn add_xf_load(&mut self, random: &mut Random) {
+    pub fn add_xf_load(&mut self, random: &mut Random) {
         let words = random.between(1, 16);
         let highest = 4184 - words;
         let address = match random.below(4) {
@@ -96,6 +115,10 @@ impl Units {
             1 => 0,
             _ => random.below(highest + 1),
         };
+        self.xf_load(random, words, address);
+    }
+
+    pub fn xf_load(&mut self, random: &mut Random, words: u32, address: u32) {
         // "16-bit XF lengths taken whole": high bits by chance.
         let high = if random.once_in(2) {
             random.u32() & 0xFFF0
@@ -108,13 +131,24 @@ impl Units {
         self.units.push(unit);
     }
 
+    /// One that changes no register: one byte, an indexed load, a list's call.
+    pub fn add_without_effect(&mut self, random: &mut Random) {
+        match random.below(4) {
+            0 => self.units.push(vec![random.pick(&[0x00, 0x44, 0x48])]),
+            1 | 2 => self.add_indexed_load(random),
+            _ => self
+                .units
+                .push(bytes_of(&[0x40], &[random.word(), random.word()])),
+        }
+    }
+
     fn add_indexed_load(&mut self, random: &mut Random) {
         let opcode = random.pick(&[0x20, 0x28, 0x30, 0x38]);
         self.units
             .push(bytes_of(&[opcode], &[random.word() << 16 ^ random.u32()]));
     }
 
-    fn add_bp_load(&mut self, random: &mut Random) {
+    pub fn add_bp_load(&mut self, random: &mut Random) {
         let register = match random.below(4) {
             0 => 0xFE,
             1 => random.pick(&[0x00, 0x41, 0xFD, 0xFF]),
@@ -129,17 +163,22 @@ impl Units {
     }
 
     fn add_draw(&mut self, random: &mut Random) {
-        let head = 0x80 | random.u8() & 0x3F;
-        let Ok(layout) = layout(&self.cp.vertex_format(head & 7)) else {
-            return;
-        };
+        let format = random.u8() & 7;
         let count = match random.below(6) {
             0 => 0,
             1 => 1,
             2 => random.between(2, 40),
             _ => random.between(2, 6),
         };
-        self.draw(random, head, count as u16, layout.length.into());
+        self.draw_of(random, format, count as u16);
+    }
+
+    /// A draw, where its format as the loads leave it is good.
+    pub fn draw_of(&mut self, random: &mut Random, format: u8, count: u16) {
+        if let Ok(layout) = layout(&self.cp.vertex_format(format)) {
+            let head = 0x80 | random.u8() & 0x38 | format;
+            self.draw(random, head, count, layout.length.into());
+        }
     }
 
     pub fn draw(&mut self, random: &mut Random, head: u8, count: u16, length: usize) {

@@ -22,6 +22,14 @@ fn no_fault_no_difference() {
     assert_eq!(duo.tally.unreached(), Vec::<String>::new());
 }
 
+/// Nor by runs that are made of steps, as those with a fault of runs are.
+#[test]
+fn steps_are_no_difference() {
+    let mut duo = Duo::new(Box::new(Faulty(common::Fault::OnlySteps)), Box::new(Twin));
+    scenarios::compare(&mut duo, SEED, CALLS);
+    assert_eq!(duo.fault(), None);
+}
+
 /// What chance alone gives reaches every answer of every call.
 #[test]
 fn chance_reaches_every_answer() {

@@ -210,7 +210,7 @@ fn every_call_is_answered_as_the_papers_say() {
     patches(&mut tour);
     patches_fed(&mut tour);
     refused_patches(&mut tour);
-    assert_eq!(tour.0.tally.unreached(), Vec::<String>::new());
+    assert_eq!(tour.0.tally.unreached_answers(), Vec::<String>::new());
 }
 
 /// "Fresh state: control 0010 (hex), BP register FE holding FFFFFF, every other
@@ -683,34 +683,35 @@ fn normals(tour: &mut Tour) {
     tour.raw(&INDICES, 10, &bytes[..8], &[0]);
 }
 
+/// Three components of a normal in each format, and their bits.
+const COMPONENTS: [(&[u8], [u32; 3]); 5] = [
+    // u8: 1, 1/128, 255/128.
+    (&[0x80, 0x01, 0xFF], [0x3F80_0000, 0x3C00_0000, 0x3FFF_0000]),
+    // s8: 1, -2, -1/64.
+    (&[0x40, 0x80, 0xFF], [0x3F80_0000, 0xC000_0000, 0xBC80_0000]),
+    // u16: 1, 1/32768, 65535/32768.
+    (
+        &[0x80, 0x00, 0x00, 0x01, 0xFF, 0xFF],
+        [0x3F80_0000, 0x3800_0000, 0x3FFF_FF00],
+    ),
+    // s16: 1, -2, 0.
+    (
+        &[0x40, 0x00, 0x80, 0x00, 0x00, 0x00],
+        [0x3F80_0000, 0xC000_0000, 0x0000_0000],
+    ),
+    // f32: 64, the number next below 0, -0.
+    (
+        &[0x42, 0x80, 0, 0, 0x80, 0, 0, 0x01, 0x80, 0, 0, 0],
+        [0x4280_0000, 0x8000_0001, 0x8000_0000],
+    ),
+];
+
 /// "s8 has 6 bits, s16 has 14; for unsigned ones use 7 and 15. They apply whatever
 /// bit 30 says, and f32 is untouched." (document 02, L2.) Of three and of nine.
 fn fractions_of_normals(tour: &mut Tour) {
-    // Three components in each format, and their bits.
-    let cases: [(&[u8], [u32; 3]); 5] = [
-        // u8: 1, 1/128, 255/128.
-        (&[0x80, 0x01, 0xFF], [0x3F80_0000, 0x3C00_0000, 0x3FFF_0000]),
-        // s8: 1, -2, -1/64.
-        (&[0x40, 0x80, 0xFF], [0x3F80_0000, 0xC000_0000, 0xBC80_0000]),
-        // u16: 1, 1/32768, 65535/32768.
-        (
-            &[0x80, 0x00, 0x00, 0x01, 0xFF, 0xFF],
-            [0x3F80_0000, 0x3800_0000, 0x3FFF_FF00],
-        ),
-        // s16: 1, -2, 0.
-        (
-            &[0x40, 0x00, 0x80, 0x00, 0x00, 0x00],
-            [0x3F80_0000, 0xC000_0000, 0x0000_0000],
-        ),
-        // f32: 64, the number next below 0, -0.
-        (
-            &[0x42, 0x80, 0, 0, 0x80, 0, 0, 0x01, 0x80, 0, 0, 0],
-            [0x4280_0000, 0x8000_0001, 0x8000_0000],
-        ),
-    ];
     // All other shifts are set: position's and texture 0's.
     let shifts = 31 << 4 | 31 << 25;
-    for (component, (bytes, bits)) in (0..).zip(cases) {
+    for (component, (bytes, bits)) in (0..).zip(COMPONENTS) {
         let vertex = [&[9, 9], bytes, bytes, bytes].concat();
         let three = &vertex[..2 + bytes.len()];
         let nine = [bits, bits, bits].concat();

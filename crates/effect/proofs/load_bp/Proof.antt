@@ -1,7 +1,6 @@
--- `effect::load_bp` meets its contract: the register is stored under the mask, and FE is set where it was not the one loaded.
+-- `effect::load_bp` meets its contract: the register is stored under the mask, and then the next mask.
+use Rattle.effect.proofs.Mask.{mask-stored}
 use borrow.Author.Needs.{needs}
-use borrow.Author.Tests.{eq-eqb, ne-eqb}
-use Rattle.effect.specs.Effect.{loadedBp, storedBp}
 use Rattle.effect.proofs.load_bp.Statement.{statement}
 use Rattle.effect.proofs.load_bp.Tie as tie
 
@@ -23,16 +22,14 @@ mul-bp c = search needs
 element-write-bp : tie.Need-element-write-bp
 element-write-bp c = search needs
 
+chosen-requires : tie.Need-chosen-requires
+chosen-requires c κs = search needs
+
 element-write-bp-2 : tie.Need-element-write-bp-2
 element-write-bp-2 c = search needs
 
 returns : tie.Need-returns
-unfolding loadedBp storedBp
-returns c = rw (c .before .replace-bits .ensures, ne-eqb _ _ (c .if1 .taken))
-
-returns-2 : tie.Need-returns-2
-unfolding loadedBp storedBp
-returns-2 c = rw (c .before .replace-bits .ensures, eq-eqb _ _ (c .if1 .left))
+returns c = mask-stored _ _ _ _ _ (c .before .replace-bits .ensures) (c .chosen .ensures)
 
 pub load-bp-spec : {M : Type 1} → statement M
 load-bp-spec =
@@ -44,6 +41,6 @@ load-bp-spec =
     replace-bits-requires
     mul-bp
     element-write-bp
+    chosen-requires
     element-write-bp-2
-    returns
-    returns-2)
+    returns)

@@ -43,7 +43,7 @@ pub fn open_draw(duo: &mut Duo, random: &mut Random) {
     }
 }
 
-fn set_format(duo: &mut Duo, format: usize, words: &FormatWords) {
+pub fn set_format(duo: &mut Duo, format: usize, words: &FormatWords) {
     let &[vcd_0, vcd_1, vat @ ..] = words;
     duo.poke(word::VCD_0, vcd_0);
     duo.poke(word::VCD_1, vcd_1);

@@ -1,7 +1,9 @@
 //! What both sides are driven through. The fixed part is the same whatever the
 //! seed; each scenario by chance begins from a fresh state and drives one part.
 
+pub mod cuts;
 mod draws;
+pub mod formats_between_draws;
 mod patches;
 mod refusals;
 mod registers;
@@ -16,17 +18,27 @@ mod writer;
 use crate::duo::Duo;
 use crate::random::Random;
 
+/// The seed of the fixed part.
+const FIXED: u64 = 0x6669_7865;
+
 /// The worked numbers, every refusal from every call that can give it, every
-/// row of the tables.
+/// row of the tables, all that a run is to go through.
 pub fn fixed(duo: &mut Duo) {
     worked::worked(duo);
     refusals::every_refusal(duo);
     tables::every_table_row(duo);
+    let random = &mut Random::new(FIXED);
+    (0..4).for_each(|_| formats_between_draws::stream(duo, random));
+    formats_between_draws::each_word(duo, random);
+    formats_between_draws::each_address(duo, random);
+    cuts::every_cut(duo);
+    cuts::every_zeros(duo, random);
+    cuts::xf_ends(duo, random);
 }
 
 /// One scenario by chance.
 pub fn by_chance(duo: &mut Duo, random: &mut Random) {
-    match random.below(42) {
+    match random.below(44) {
         0..=3 => streams::stream(duo, random),
         4 => streams::runs(duo, random),
         5..=8 => streams::mutated(duo, random),
@@ -43,6 +55,14 @@ pub fn by_chance(duo: &mut Duo, random: &mut Random) {
         35..=38 => wild::wild(duo, random),
         39 => vertices::normals(duo, random),
         40 => streams::loaded(duo, random),
+        41 => formats_between_draws::stream(duo, random),
+        42 => match random.below(8) {
+            0 => formats_between_draws::each_address(duo, random),
+            1 => cuts::zeros(duo, random),
+            2 => cuts::xf_ends(duo, random),
+            3..=5 => cuts::draws_cut(duo, random),
+            _ => formats_between_draws::each_word(duo, random),
+        },
         _ => match random.below(8) {
             0 => draws::big_draw(duo, random),
             1..=3 => registers::offsets(duo, random),

@@ -1,5 +1,7 @@
 //! A side that is the twin but for one fault, and the list of faults.
 
+mod steps;
+
 use compare::side::{Side, Twin};
 use model::words::{
     CommandWords, FormatWords, ReportWords, StateWords, UnitWords, ValueWords, DONE, WAITING,
@@ -10,6 +12,8 @@ macro_rules! faults {
     ($($fault:ident,)*) => {
         #[derive(Clone, Copy, Debug, PartialEq, Eq)]
         pub enum Fault {
+            /// None: a run is made of steps, as for the faults of runs.
+            OnlySteps,
             $($fault,)*
         }
 
@@ -98,6 +102,31 @@ faults! {
     OldMetricsWritten,
     OldMetricsToWriteGives6,
     MetricsWrittenAsOld,
+    KeptOverVcd0,
+    KeptOverVcd1,
+    KeptOverVat0,
+    KeptOverVat1,
+    KeptOverVat2,
+    VcdForgetsFormat0Alone,
+    ZerosOneShort,
+    ZerosOfBlocksOneShort,
+    LastOf8TakenAsZero,
+    LastOf128TakenAsZero,
+    ZerosPastTheLimit,
+    FirstVertexCopied,
+    LongerVertexLost,
+    VerticesPastTheLimit,
+    VertexPastTheLimitOfItsHead,
+    VertexOverTheEndPartly,
+    EmptyDrawLeftOpen,
+    DrawLostAtTheLimit,
+    DrawLostByWaiting,
+    MaskKeptByRun,
+    XfOnePastTaken,
+    UnlistedCpLoadTaken,
+    UnitOverTheEndAwaited,
+    LackingOfTheStretch,
+    PointerLeftAtTheEnd,
 }
 
 const VERTEX: u32 = 0x01;
@@ -222,6 +251,13 @@ impl Faulty {
         seen
     }
 
+    fn seen_limit(&self, limit: u32) -> u32 {
+        match self.0 {
+            Fault::LimitModulo => limit & 0xFFFF,
+            _ => limit,
+        }
+    }
+
     /// What is wrong with the state words after a unit or after none.
     fn spoil_state(&self, state: &mut StateWords, stale: [u32; 3], done: bool) {
         match self.0 {
@@ -266,6 +302,52 @@ impl Faulty {
             {
                 *lacking += 4;
             }
+            _ => {}
+        }
+    }
+
+    /// What is wrong with a step of the metrics opcodes; the answer.
+    fn spoil_metrics(
+        &self,
+        state: &mut StateWords,
+        ring: &[u8],
+        unit: &mut UnitWords,
+        lacking: &mut u32,
+        answer: u32,
+        before: (&StateWords, &UnitWords),
+    ) -> u32 {
+        let metrics = answer == DONE && unit[0] == METRICS;
+        match self.0 {
+            Fault::OldMetricsAccepted if answer == 6 && next_byte(state, ring) == OLD_METRICS => {
+                take_byte(state);
+                *unit = [METRICS, 0, 0, 0, 0, 1];
+                return DONE;
+            }
+            Fault::MetricsRefused if metrics => {
+                (*state, *unit) = (*before.0, *before.1);
+                return 6;
+            }
+            Fault::MetricsOfTwoBytes if metrics => {
+                if state[READ_POINTER] == state[WRITE_POINTER] {
+                    (*state, *unit, *lacking) = (*before.0, *before.1, 1);
+                    return WAITING;
+                }
+                take_byte(state);
+                unit[5] = 2;
+            }
+            _ => {}
+        }
+        answer
+    }
+
+    /// What is wrong with the report of a run.
+    fn spoil_report(&self, answer: u32, was: ReportWords, report: &mut ReportWords) {
+        match self.0 {
+            Fault::ReportLeft if answer != DONE && answer != WAITING => *report = was,
+            Fault::ReportOneMore if answer == 8 => report[0] += 1,
+            Fault::RunLacksOne if answer == WAITING => report[1] = 1,
+            Fault::RunLacksNone if answer == WAITING => report[1] = 0,
+            Fault::LimitRunLacksOne if answer == DONE => report[1] = 1,
             _ => {}
         }
     }
@@ -385,24 +467,7 @@ impl Side for Faulty {
                 vertex[unit[5] as usize..].fill(0);
             }
             Fault::VertexCopiedByWaiting if answer == WAITING => vertex[0] ^= 1,
-            Fault::OldMetricsAccepted if answer == 6 && next_byte(state, ring) == OLD_METRICS => {
-                take_byte(state);
-                *unit = [METRICS, 0, 0, 0, 0, 1];
-                return DONE;
-            }
-            Fault::MetricsRefused if answer == DONE && unit[0] == METRICS => {
-                (*state, *unit) = (was, told);
-                return 6;
-            }
-            Fault::MetricsOfTwoBytes if answer == DONE && unit[0] == METRICS => {
-                if state[READ_POINTER] == state[WRITE_POINTER] {
-                    (*state, *unit, *lacking) = (was, told, 1);
-                    return WAITING;
-                }
-                take_byte(state);
-                unit[5] = 2;
-            }
-            _ => {}
+            _ => return self.spoil_metrics(state, ring, unit, lacking, answer, (&was, &told)),
         }
         answer
     }
@@ -416,23 +481,17 @@ impl Side for Faulty {
         limit: u32,
         report: &mut ReportWords,
     ) -> u32 {
+        if steps::makes(self.0) {
+            return steps::run(self.0, state, ring, xf, vertex, limit, report);
+        }
         let was = *report;
-        let limit = if self.is(Fault::LimitModulo) {
-            limit & 0xFFFF
-        } else {
-            limit
-        };
+        let limit = self.seen_limit(limit);
         let mut seen = self.seen(state);
         let answer = Twin.run(&mut seen, ring, xf, vertex, limit, report);
         if report[0] != 0 {
             *state = seen;
         }
         match self.0 {
-            Fault::ReportLeft if answer != DONE && answer != WAITING => *report = was,
-            Fault::ReportOneMore if answer == 8 => report[0] += 1,
-            Fault::RunLacksOne if answer == WAITING => report[1] = 1,
-            Fault::RunLacksNone if answer == WAITING => report[1] = 0,
-            Fault::LimitRunLacksOne if answer == DONE => report[1] = 1,
             Fault::DrawNormalisedByEmptyRun if report[0] == 0 && state[OPEN] == 0 => {
                 clear_draw(state);
             }
@@ -448,6 +507,7 @@ impl Side for Faulty {
             }
             _ => {}
         }
+        self.spoil_report(answer, was, report);
         answer
     }
 

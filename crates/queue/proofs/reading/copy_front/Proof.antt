@@ -1,4 +1,4 @@
--- `queue::reading::copy_front` meets its contract: a straight stretch is stored whole, and any other byte by byte.
+-- `queue::reading::copy_front` meets its contract: a straight stretch is stored whole.
 use mathlib.Core.Path.{sym, _∙_}
 use borrow.Author.Tests.{not-false}
 use Rattle.queue.proofs.CursorLaws.{straight-true, straight-put}
@@ -9,8 +9,8 @@ use Rattle.queue.proofs.reading.copy_front.Tie as tie
 straight-requires : tie.Need-straight-requires
 straight-requires c κs = search needs
 
-gather-requires : tie.Need-gather-requires
-gather-requires c κs = search needs
+copy-round-requires : tie.Need-copy-round-requires
+copy-round-requires c κs = search needs
 
 same-length : tie.Need-same-length
 same-length c = search needs
@@ -24,8 +24,8 @@ cast-at c = search needs
 add-end : tie.Need-add-end
 add-end c = search needs
 
-gather-requires-2 : tie.Need-gather-requires-2
-gather-requires-2 c κs = search needs
+gather-requires : tie.Need-gather-requires
+gather-requires c κs = search needs
 
 same-length-2 : tie.Need-same-length-2
 same-length-2 c = search needs
@@ -59,12 +59,12 @@ copy-front-spec =
     tie.close
     (tie.spec
     straight-requires
-    gather-requires
+    copy-round-requires
     same-length
     returns
     cast-at
     add-end
-    gather-requires-2
+    gather-requires
     same-length-2
     returns-2
     sub-store

@@ -1,0 +1,4 @@
+pub mod Sizes
+pub mod Executed
+pub mod Drawn
+pub mod Classes

@@ -1,0 +1,20 @@
+-- Units of the first bytes from a cursor on: what the inner function promises for every cursor and ring. Nobody needs to read this to
+-- believe the crate.
+use mathlib.Core.Path.{_≡_}
+use mathlib.Core.List.{List}
+use Prim.Native.Nat.{ℕ, _≤_}
+use Rattle.command.specs.declared.Draw.{Draw}
+use Rattle.walk.specs.Flat.{coreOf}
+use Rattle.walk.specs.Walk.{TakesMany}
+use Rattle.queue.specs.declared.Cursor.{Cursor}
+use Rattle.queue.specs.Cursor.{skipped}
+use Rattle.processor.specs.Cursor.{bytesAt}
+
+-- units off the first bytes of a cursor, and all that they leave
+pub record TakesStretch (cursor : Cursor) (ring cp bp : List ℕ) (draw : Draw) (xf buffer : List ℕ) (most : ℕ)
+    (cursor' : Cursor) (draw' : Draw) (units : ℕ) (cp' bp' xf' buffer' : List ℕ) : Type 0 where
+  pub lent : ℕ
+  pub used : ℕ
+  pub there : lent ≤ cursor .left
+  pub taken : TakesMany (bytesAt cursor ring lent) (coreOf cp bp draw xf buffer) most units used (coreOf cp' bp' draw' xf' buffer')
+  pub moved : cursor' ≡ skipped cursor used
