@@ -34,7 +34,8 @@ use Rattle.patch.specs.Patch.{Patch, mergedOf}
 use Rattle.patch.specs.Answers as patches
 use Rattle.patch.specs.Merging.{Merges, mergeRefusal}
 use Rattle.encoding.specs.Told.{firstOf, secondOf, padded}
-use Rattle.duckhammock.specs.Formats.{LaysOut, TellsAttribute, KeepsBits, PutsBytes, MergesInto}
+use Rattle.whole.specs.Whole.{wholeTo, wholeRefusal, DecodesAll}
+use Rattle.duckhammock.specs.Formats.{LaysOut, TellsAttribute, TellsAll, KeepsBits, PutsBytes, MergesInto}
 use Rattle.duckhammock.specs.Counting.{CountsBytes}
 use Rattle.duckhammock.proofs.Refusals.{stays, stays-number, first-is}
 
@@ -78,6 +79,19 @@ module _ {d : Descriptor} {k : ℕ} {vertex : List ℕ} {a : Answer} (h : Decode
   decode-done is t e =
       let m = ap vertices.meaning (sym t) ∙ h .meaning-is in
       record { answer-is = ap firstOf m; values-are = e ∙ ap (λ (x : List ℕ). padded 10 (drop 1 x)) m }
+
+-- ---- a whole vertex
+
+module _ {d : Descriptor} {vertex values values' : List ℕ} {a : LayoutAnswer} (h : DecodesAll d vertex values a values') where
+  -- the answer's number is the refusal
+  number-is : {r : ℕ} → firstOf (layouts.meaning a) ≡ r → r ≡ wholeRefusal d vertex
+  number-is e = sym e ∙ ap firstOf (h .answer-is)
+
+  pub all-told : {r : ℕ} → firstOf (layouts.meaning a) ≡ r → TellsAll d vertex values r values'
+  all-told e = record {
+    answer-is = number-is e;
+    values-are = h .values-are ∙ ap (λ (n : ℕ). cond (eqb n 0) (wholeTo d vertex 21) values) (sym (number-is e));
+  }
 
 module _ {d : Descriptor} {k : ℕ} {vertex : List ℕ} {w : RawWords} (h : RawIs d k vertex w) (values : List ℕ) where
   pub raw-refused : (reason : Reason) {r : ℕ} → w .answer ≡ raw.Refused reason → r ≡ number reason → KeepsBits d k vertex values r values

@@ -4,3 +4,4 @@ pub mod Windows
 pub mod Units
 pub mod Chained
 pub mod Waiting
+pub mod Wholes

@@ -3,9 +3,9 @@
 use mathlib.Core.Path.{_≡_}
 use mathlib.Core.Bool.{cond}
 use mathlib.Core.List.{List, _∷_}
-use Prim.Native.Nat.{ℕ}
+use Prim.Native.Nat.{ℕ, _*_, _<_}
 use lib.Dec.{eqb}
-use lib.ListN.{length, drop}
+use lib.ListN.{length, take, drop}
 use Rattle.laws.specs.Values.{upTo}
 use Rattle.layout.specs.declared.Descriptor.{Descriptor}
 use Rattle.layout.specs.Sizes.{sizeOf, offsetOf}
@@ -18,6 +18,7 @@ use Rattle.patch.specs.Commands.{patchBytes}
 use Rattle.patch.specs.Answers.{writeRefusal}
 use Rattle.patch.specs.Merging.{mergeRefusal}
 use Rattle.encoding.specs.Told.{firstOf, padded}
+use Rattle.whole.specs.Whole.{wholeTo, wholeRefusal}
 
 -- a vertex laid out: the bytes of each attribute, the sums of those before it, and the length
 pub record LaysOut (d : Descriptor) (sizes offsets : List ℕ) (bytes r : ℕ) (sizes' offsets' : List ℕ) (bytes' : ℕ) : Type 0 where
@@ -31,6 +32,20 @@ pub record LaysOut (d : Descriptor) (sizes offsets : List ℕ) (bytes r : ℕ) (
 pub record TellsAttribute (d : Descriptor) (k : ℕ) (vertex values : List ℕ) (r : ℕ) (values' : List ℕ) : Type 0 where
   pub answer-is : r ≡ firstOf (decodingOf d k vertex)
   pub values-are : values' ≡ cond (eqb r 0) (padded 10 (drop 1 (decodingOf d k vertex))) values
+
+-- a whole vertex decoded: ten words for each attribute, its kind and values, then zeros
+pub record TellsAll (d : Descriptor) (vertex values : List ℕ) (r : ℕ) (values' : List ℕ) : Type 0 where
+  pub answer-is : r ≡ wholeRefusal d vertex
+  pub values-are : values' ≡ cond (eqb r 0) (wholeTo d vertex 21) values
+
+-- that it is 21 decodes (proved in proofs/Wholes): each premise is the contract of a call, as it stands
+pub record WholePromises : Type 0 where
+  -- it is refused just where the decode of an attribute is, by the same number
+  pub refused-alike : (d : Descriptor) (k : ℕ) (vertex values : List ℕ) (r : ℕ) (values' one : List ℕ) (s : ℕ) (one' : List ℕ) → k < 21
+      → TellsAll d vertex values r values' → TellsAttribute d k vertex one s one' → r ≡ s
+  -- and else the ten words from 10 k on are what the decode of attribute k tells
+  pub told-alike : (d : Descriptor) (k : ℕ) (vertex values : List ℕ) (r : ℕ) (values' one : List ℕ) (s : ℕ) (one' : List ℕ) → k < 21
+      → TellsAll d vertex values r values' → TellsAttribute d k vertex one s one' → r ≡ 0 → take 10 (drop (10 * k) values') ≡ one'
 
 -- "f32 keeps its bits": how many f32 components an attribute has, and their patterns, then zeros
 pub record KeepsBits (d : Descriptor) (k : ℕ) (vertex values : List ℕ) (r : ℕ) (values' : List ℕ) : Type 0 where

@@ -4,7 +4,7 @@ use layout::LayoutAnswer;
 use vertex::Answer;
 use vertex::RawAnswer;
 ghost use Rattle.encoding.specs.Named.{formatNamed};
-ghost use Rattle.duckhammock.specs.Formats.{LaysOut, TellsAttribute, KeepsBits};
+ghost use Rattle.duckhammock.specs.Formats.{LaysOut, TellsAttribute, TellsAll, KeepsBits};
 
 // The layout of a vertex: each attribute's bytes, the sum of those before it, and the length.
 #[no_mangle]
@@ -48,6 +48,22 @@ pub extern "C" fn duckhammock_decode(
             *values = encoding::attribute_words(is);
             0
         }
+    }
+}
+
+// All attributes of a vertex: ten words each, the kind and nine values, zeros where unused.
+#[no_mangle]
+pub extern "C" fn duckhammock_decode_all(
+    format: &[u32; 5],
+    vertex: &[u8],
+    values: &mut [u32; 210],
+) -> u32
+    ensures { λ r. ⌜ TellsAll (formatNamed (now (format .entry))) (now (vertex .entry)) (now (values .entry)) r (now (values .exit)) ⌝ }
+{
+    let answer = whole::decode_all(encoding::descriptor(format), vertex, values);
+    match answer {
+        LayoutAnswer::Refused(reason) => refused(reason),
+        LayoutAnswer::Accepted => 0,
     }
 }
 

@@ -13,6 +13,7 @@ use fifo::Answer;
 use fifo::Fifo;
 use fifo::Reading;
 pub use formats::duckhammock_decode;
+pub use formats::duckhammock_decode_all;
 pub use formats::duckhammock_lay_out;
 pub use formats::duckhammock_raw_words;
 pub use patches::duckhammock_check_patch;

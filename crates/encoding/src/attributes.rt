@@ -23,7 +23,7 @@ pub fn descriptor(words: &[u32; 5]) -> Descriptor
 }
 
 // A float by its bits; every NaN is told as one.
-fn bits(x: f32) -> u32
+pub fn bits(x: f32) -> u32
     ensures { λ r. ⌜ r ≡ toBits binary32 x ⌝ }
 {
     if x != x {

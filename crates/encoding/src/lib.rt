@@ -8,6 +8,7 @@ pub use answers::stop_number;
 pub use answers::tell_step;
 pub use answers::unit_words;
 pub use attributes::attribute_words;
+pub use attributes::bits;
 pub use attributes::descriptor;
 pub use attributes::raw_list;
 pub use commands::command;

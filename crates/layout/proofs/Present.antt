@@ -4,7 +4,7 @@ use mathlib.Core.Path.{_≡_, refl, sym, ap, _∙_}
 use mathlib.Core.Bool.{Bool, true, false, cond, _||_}
 use mathlib.Core.Logic.{⊎-elim}
 use Prim.Native.Nat.{ℕ, zero, suc, _+_, _-_, _*_, _/_, _%_, _^_, _<_, _≤_}
-use native.Mathlib.Nat.{one-mul, zero-div, zero-mod, mod-lt, mod-one, add-comm, div-one}
+use native.Mathlib.Nat.{one-mul, zero-div, zero-mod, mod-lt, mod-one, add-comm}
 use native.Mathlib.Numerals.{one-add}
 use native.Mathlib.Omega.{arith}
 use lib.Dec.{leb, ltb, eqb, lit<}
@@ -109,14 +109,8 @@ module _ (d : Descriptor) where
   pub fore-absent : d .vcd0 / 2 ^ 11 % 2 ^ 6 ≡ 0 → (k : ℕ) → 10 ≤ k → k < 13 → modeOf d k ≡ 0
   fore-absent e k g h = fore-mode d k (omega arith) h ∙ clear-two (d .vcd0) 11 6 (2 * k - 9) e (omega arith) (omega arith)
 
-  -- ---- the eight textures
-  absent-from : (n s : ℕ) → 13 ≤ n → d .vcd1 / 2 ^ s % 2 ^ (16 - s) ≡ 0 → s + 26 ≡ 2 * n → AbsentFrom d n
-  absent-from n s g e f = record {
-    absent = λ k l h. texture-mode d k (omega arith) h ∙ clear-two (d .vcd1) s (16 - s) (2 * k - 26) e (omega arith) (omega arith);
+  -- ---- the textures past the first
+  pub textures-absent : d .vcd1 / 2 ^ 2 % 2 ^ 14 ≡ 0 → AbsentFrom d 14
+  textures-absent e = record {
+    absent = λ k l h. texture-mode d k (omega arith) h ∙ clear-two (d .vcd1) 2 14 (2 * k - 26) e (omega arith) (omega arith);
   }
-
-  pub none-present : d .vcd1 % 2 ^ 16 ≡ 0 → AbsentFrom d 13
-  none-present e = absent-from 13 0 (omega arith) (ap (λ (x : ℕ). x % 2 ^ 16) (div-one (d .vcd1)) ∙ e) refl
-
-  pub first-present : d .vcd1 / 2 ^ 2 % 2 ^ 14 ≡ 0 → AbsentFrom d 14
-  first-present e = absent-from 14 2 (omega arith) e refl

@@ -17,14 +17,14 @@ pub record Sums (d : Descriptor) (fore : Fore) (textures : Textures) (a : ℕ) :
   pub at11 : a + fore .position + fore .normal ≡ offsetOf d 11
   pub at12 : a + fore .position + fore .normal + fore .colour0 ≡ offsetOf d 12
   pub at13 : a + fore .position + fore .normal + fore .colour0 + fore .colour1 ≡ offsetOf d 13
-  pub at14 : a + fore .position + fore .normal + fore .colour0 + fore .colour1 + textures .texture0 ≡ offsetOf d 14
-  pub at15 : a + fore .position + fore .normal + fore .colour0 + fore .colour1 + textures .texture0 + textures .texture1 ≡ offsetOf d 15
-  pub at16 : a + fore .position + fore .normal + fore .colour0 + fore .colour1 + textures .texture0 + textures .texture1 + textures .texture2 ≡ offsetOf d 16
-  pub at17 : a + fore .position + fore .normal + fore .colour0 + fore .colour1 + textures .texture0 + textures .texture1 + textures .texture2 + textures .texture3 ≡ offsetOf d 17
-  pub at18 : a + fore .position + fore .normal + fore .colour0 + fore .colour1 + textures .texture0 + textures .texture1 + textures .texture2 + textures .texture3 + textures .texture4 ≡ offsetOf d 18
-  pub at19 : a + fore .position + fore .normal + fore .colour0 + fore .colour1 + textures .texture0 + textures .texture1 + textures .texture2 + textures .texture3 + textures .texture4 + textures .texture5 ≡ offsetOf d 19
-  pub at20 : a + fore .position + fore .normal + fore .colour0 + fore .colour1 + textures .texture0 + textures .texture1 + textures .texture2 + textures .texture3 + textures .texture4 + textures .texture5 + textures .texture6 ≡ offsetOf d 20
-  pub at21 : a + fore .position + fore .normal + fore .colour0 + fore .colour1 + textures .texture0 + textures .texture1 + textures .texture2 + textures .texture3 + textures .texture4 + textures .texture5 + textures .texture6 + textures .texture7 ≡ offsetOf d 21
+  pub at14 : a + fore .position + fore .normal + fore .colour0 + fore .colour1 + fore .texture0 ≡ offsetOf d 14
+  pub at15 : a + fore .position + fore .normal + fore .colour0 + fore .colour1 + fore .texture0 + textures .texture1 ≡ offsetOf d 15
+  pub at16 : a + fore .position + fore .normal + fore .colour0 + fore .colour1 + fore .texture0 + textures .texture1 + textures .texture2 ≡ offsetOf d 16
+  pub at17 : a + fore .position + fore .normal + fore .colour0 + fore .colour1 + fore .texture0 + textures .texture1 + textures .texture2 + textures .texture3 ≡ offsetOf d 17
+  pub at18 : a + fore .position + fore .normal + fore .colour0 + fore .colour1 + fore .texture0 + textures .texture1 + textures .texture2 + textures .texture3 + textures .texture4 ≡ offsetOf d 18
+  pub at19 : a + fore .position + fore .normal + fore .colour0 + fore .colour1 + fore .texture0 + textures .texture1 + textures .texture2 + textures .texture3 + textures .texture4 + textures .texture5 ≡ offsetOf d 19
+  pub at20 : a + fore .position + fore .normal + fore .colour0 + fore .colour1 + fore .texture0 + textures .texture1 + textures .texture2 + textures .texture3 + textures .texture4 + textures .texture5 + textures .texture6 ≡ offsetOf d 20
+  pub at21 : a + fore .position + fore .normal + fore .colour0 + fore .colour1 + fore .texture0 + textures .texture1 + textures .texture2 + textures .texture3 + textures .texture4 + textures .texture5 + textures .texture6 + textures .texture7 ≡ offsetOf d 21
 
 pub sums : (d : Descriptor) (fore : Fore) (textures : Textures) (a : ℕ) → ForeOf d fore → TexturesOf d textures → a ≡ offsetOf d 9
     → Sums d fore textures a
@@ -33,7 +33,7 @@ sums d fore textures a f t e =
     let s11 = sum-next d 10 _ _ s10 (f .normal-is) in
     let s12 = sum-next d 11 _ _ s11 (f .colour0-is) in
     let s13 = sum-next d 12 _ _ s12 (f .colour1-is) in
-    let s14 = sum-next d 13 _ _ s13 (t .texture0-is) in
+    let s14 = sum-next d 13 _ _ s13 (f .texture0-is) in
     let s15 = sum-next d 14 _ _ s14 (t .texture1-is) in
     let s16 = sum-next d 15 _ _ s15 (t .texture2-is) in
     let s17 = sum-next d 16 _ _ s16 (t .texture3-is) in
@@ -60,7 +60,7 @@ sums d fore textures a f t e =
 pub sizes-are : (d : Descriptor) (fore : Fore) (textures : Textures) → ForeOf d fore → TexturesOf d textures
     → d .vcd0 / 2 ^ 0 % 2 ∷ d .vcd0 / 2 ^ 1 % 2 ∷ d .vcd0 / 2 ^ 2 % 2 ∷ d .vcd0 / 2 ^ 3 % 2 ∷ d .vcd0 / 2 ^ 4 % 2 ∷ d .vcd0 / 2 ^ 5 % 2 ∷ d .vcd0 / 2 ^ 6 % 2 ∷ d .vcd0 / 2 ^ 7 % 2 ∷ d .vcd0 / 2 ^ 8 % 2
     ∷ fore .position ∷ fore .normal ∷ fore .colour0 ∷ fore .colour1
-    ∷ textures .texture0 ∷ textures .texture1 ∷ textures .texture2 ∷ textures .texture3 ∷ textures .texture4 ∷ textures .texture5 ∷ textures .texture6 ∷ textures .texture7 ∷ []
+    ∷ fore .texture0 ∷ textures .texture1 ∷ textures .texture2 ∷ textures .texture3 ∷ textures .texture4 ∷ textures .texture5 ∷ textures .texture6 ∷ textures .texture7 ∷ []
     ≡ upTo (sizeOf d) 21
 unfolding upTo sizeOf modeOf bitsAt modes
 sizes-are d fore textures f t =
@@ -69,7 +69,7 @@ sizes-are d fore textures f t =
       f .normal-is,
       f .colour0-is,
       f .colour1-is,
-      t .texture0-is,
+      f .texture0-is,
       t .texture1-is,
       t .texture2-is,
       t .texture3-is,

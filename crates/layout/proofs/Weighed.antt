@@ -53,58 +53,74 @@ module _ (d : Descriptor) where
   unfolding modeOf countOf formatOf indicesOf bitsAt modes counts formats directOf
   colour1-at r w = weighed d 12 r (lit≤ tt) w
 
-  -- the position, the normal and the colours
-  pub fore-of : (p n c e : Part) → WeighedBy 9 (d .vcd0 / 2 ^ 9 % 4) (d .vat0 / 2 ^ 0 % 2) (d .vat0 / 2 ^ 1 % 8) 1 p
+  texture0-at : (r : Part) → WeighedBy 13 (d .vcd1 / 2 ^ 0 % 4) (d .vat0 / 2 ^ 21 % 2) (d .vat0 / 2 ^ 22 % 8) 1 r → At d 13 r
+  unfolding modeOf countOf formatOf indicesOf bitsAt modes counts formats
+  texture0-at r w = weighed d 13 r (lit≤ tt) w
+
+  -- the attributes in group 0 of the VAT
+  pub fore-of : (p n c e t : Part) → WeighedBy 9 (d .vcd0 / 2 ^ 9 % 4) (d .vat0 / 2 ^ 0 % 2) (d .vat0 / 2 ^ 1 % 8) 1 p
       → WeighedBy 10 (d .vcd0 / 2 ^ 11 % 4) (d .vat0 / 2 ^ 9 % 2) (d .vat0 / 2 ^ 10 % 8) (normalIndices (d .vat0)) n
       → WeighedBy 11 (d .vcd0 / 2 ^ 13 % 4) 0 (d .vat0 / 2 ^ 14 % 8) 1 c
       → WeighedBy 11 (d .vcd0 / 2 ^ 15 % 4) 0 (d .vat0 / 2 ^ 18 % 8) 1 e
+      → WeighedBy 13 (d .vcd1 / 2 ^ 0 % 4) (d .vat0 / 2 ^ 21 % 2) (d .vat0 / 2 ^ 22 % 8) 1 t
       → ForeOf d (record {
         position = p .bytes;
         normal = n .bytes;
         colour0 = c .bytes;
         colour1 = e .bytes;
-        unknown = p .unknown || n .unknown || c .unknown || e .unknown;
+        texture0 = t .bytes;
+        unknown = p .unknown || n .unknown || c .unknown || e .unknown || t .unknown;
       })
-  fore-of p n c e wp wn wc we =
+  fore-of p n c e t wp wn wc we wt =
       let hp = position-at p wp in
       let hn = normal-at n wn in
       let hc = colour0-at c wc in
       let he = colour1-at e we in
+      let ht = texture0-at t wt in
+      let u10 = first-any (p .unknown) (hp .unknown-is) in
+      let u11 = any-next d 10 _ _ u10 (hn .unknown-is) in
+      let u12 = any-next d 11 _ _ u11 (hc .unknown-is) in
+      let u13 = any-next d 12 _ _ u12 (he .unknown-is) in
       record {
         position-is = hp .bytes-are;
         normal-is = hn .bytes-are;
         colour0-is = hc .bytes-are;
         colour1-is = he .bytes-are;
-        unknown-is = any-next d 12 _ _ (any-next d 11 _ _ (any-next d 10 _ _ (first-any (p .unknown) (hp .unknown-is)) (hn .unknown-is))
-            (hc .unknown-is)) (he .unknown-is);
+        texture0-is = ht .bytes-are;
+        unknown-is = any-next d 13 _ _ u13 (ht .unknown-is);
       }
 
-  -- the position alone
-  pub fore-alone : (p : Part) → WeighedBy 9 (d .vcd0 / 2 ^ 9 % 4) (d .vat0 / 2 ^ 0 % 2) (d .vat0 / 2 ^ 1 % 8) 1 p
+  -- without normal and colours
+  pub fore-alone : (p t : Part) → WeighedBy 9 (d .vcd0 / 2 ^ 9 % 4) (d .vat0 / 2 ^ 0 % 2) (d .vat0 / 2 ^ 1 % 8) 1 p
+      → WeighedBy 13 (d .vcd1 / 2 ^ 0 % 4) (d .vat0 / 2 ^ 21 % 2) (d .vat0 / 2 ^ 22 % 8) 1 t
       → d .vcd0 / 2 ^ 11 % 2 ^ 6 ≡ 0
-      → ForeOf d (record { position = p .bytes; normal = 0; colour0 = 0; colour1 = 0; unknown = p .unknown })
-  fore-alone p wp z =
+      → ForeOf d (record {
+        position = p .bytes;
+        normal = 0;
+        colour0 = 0;
+        colour1 = 0;
+        texture0 = t .bytes;
+        unknown = p .unknown || t .unknown;
+      })
+  fore-alone p t wp wt z =
       let hp = position-at p wp in
+      let ht = texture0-at t wt in
       let m : (k : ℕ) → 10 ≤ k → k < 13 → modeOf d k ≡ 0 = fore-absent d z in
+      let m10 = m 10 (lit≤ tt) (lit< tt) in
+      let m11 = m 11 (lit≤ tt) (lit< tt) in
+      let m12 = m 12 (lit≤ tt) (lit< tt) in
+      let u10 = first-any (p .unknown) (hp .unknown-is) in
       record {
         position-is = hp .bytes-are;
-        normal-is = sym (size-none d 10 (m 10 (lit≤ tt) (lit< tt)));
-        colour0-is = sym (size-none d 11 (m 11 (lit≤ tt) (lit< tt)));
-        colour1-is = sym (size-none d 12 (m 12 (lit≤ tt) (lit< tt)));
-        unknown-is = first-any (p .unknown) (hp .unknown-is) ∙ sym (any-absent d 10 (m 10 (lit≤ tt) (lit< tt)))
-            ∙ sym (any-absent d 11 (m 11 (lit≤ tt) (lit< tt))) ∙ sym (any-absent d 12 (m 12 (lit≤ tt) (lit< tt)));
+        normal-is = sym (size-none d 10 m10);
+        colour0-is = sym (size-none d 11 m11);
+        colour1-is = sym (size-none d 12 m12);
+        texture0-is = ht .bytes-are;
+        unknown-is = any-next d 13 _ _ (u10 ∙ sym (any-absent d 10 m10) ∙ sym (any-absent d 11 m11) ∙ sym (any-absent d 12 m12)) (ht .unknown-is);
       }
 
-  -- the first texture
-  pub first-of : (r : Part) → WeighedBy 13 (d .vcd1 / 2 ^ 0 % 4) (d .vat0 / 2 ^ 21 % 2) (d .vat0 / 2 ^ 22 % 8) 1 r → (found : Bool)
-      → found ≡ anyUnknown d 13 → (r .bytes ≡ sizeOf d 13) × ((found || r .unknown) ≡ anyUnknown d 14)
-  unfolding modeOf countOf formatOf indicesOf bitsAt modes counts formats
-  first-of r w found f =
-      let h = weighed d 13 r (lit≤ tt) w in
-      (h .bytes-are, any-next d 13 found (r .unknown) f (h .unknown-is))
-
-  -- the others
-  pub textures-of : (first : ℕ) (found : Bool) (b c e f g h i : Part) → first ≡ sizeOf d 13 → found ≡ anyUnknown d 14
+  -- the other textures
+  pub textures-of : (found : Bool) (b c e f g h i : Part) → found ≡ anyUnknown d 14
       → WeighedBy 13 (d .vcd1 / 2 ^ 2 % 4) (d .vat1 / 2 ^ 0 % 2) (d .vat1 / 2 ^ 1 % 8) 1 b
       → WeighedBy 13 (d .vcd1 / 2 ^ 4 % 4) (d .vat1 / 2 ^ 9 % 2) (d .vat1 / 2 ^ 10 % 8) 1 c
       → WeighedBy 13 (d .vcd1 / 2 ^ 6 % 4) (d .vat1 / 2 ^ 18 % 2) (d .vat1 / 2 ^ 19 % 8) 1 e
@@ -113,7 +129,6 @@ module _ (d : Descriptor) where
       → WeighedBy 13 (d .vcd1 / 2 ^ 12 % 4) (d .vat2 / 2 ^ 14 % 2) (d .vat2 / 2 ^ 15 % 8) 1 h
       → WeighedBy 13 (d .vcd1 / 2 ^ 14 % 4) (d .vat2 / 2 ^ 23 % 2) (d .vat2 / 2 ^ 24 % 8) 1 i
       → TexturesOf d (record {
-        texture0 = first;
         texture1 = b .bytes;
         texture2 = c .bytes;
         texture3 = e .bytes;
@@ -124,7 +139,7 @@ module _ (d : Descriptor) where
         unknown = found || b .unknown || c .unknown || e .unknown || f .unknown || g .unknown || h .unknown || i .unknown;
       })
   unfolding modeOf countOf formatOf indicesOf bitsAt modes counts formats directOf
-  textures-of first found b c e f g h i t0 u0 wb wc we wf wg wh wi =
+  textures-of found b c e f g h i u0 wb wc we wf wg wh wi =
       let hb = weighed d 14 b (lit≤ tt) wb in
       let hc = weighed d 15 c (lit≤ tt) wc in
       let he = weighed d 16 e (lit≤ tt) we in
@@ -139,7 +154,6 @@ module _ (d : Descriptor) where
       let u5 = any-next d 18 _ _ u4 (hg .unknown-is) in
       let u6 = any-next d 19 _ _ u5 (hh .unknown-is) in
       record {
-        texture0-is = t0;
         texture1-is = hb .bytes-are;
         texture2-is = hc .bytes-are;
         texture3-is = he .bytes-are;
@@ -150,10 +164,9 @@ module _ (d : Descriptor) where
         unknown-is = any-next d 20 _ _ u6 (hi .unknown-is);
       }
 
-  -- the first alone
-  pub textures-alone : (first : ℕ) (found : Bool) → first ≡ sizeOf d 13 → found ≡ anyUnknown d 14 → AbsentFrom d 14
+  -- none of them
+  pub textures-none : (found : Bool) → found ≡ anyUnknown d 14 → AbsentFrom d 14
       → TexturesOf d (record {
-        texture0 = first;
         texture1 = 0;
         texture2 = 0;
         texture3 = 0;
@@ -163,23 +176,15 @@ module _ (d : Descriptor) where
         texture7 = 0;
         unknown = found;
       })
-  textures-alone first found t0 u0 a =
-      let m : (k : ℕ) → 14 ≤ k → k < 21 → modeOf d k ≡ 0 = λ k g h. a .absent k g h in
+  textures-none found u0 a =
+      let m : (k : ℕ) → 14 ≤ k → k < 21 → 0 ≡ sizeOf d k = λ k g h. sym (size-none d k (a .absent k g h)) in
       record {
-        texture0-is = t0;
-        texture1-is = sym (size-none d 14 (m 14 (lit≤ tt) (lit< tt)));
-        texture2-is = sym (size-none d 15 (m 15 (lit≤ tt) (lit< tt)));
-        texture3-is = sym (size-none d 16 (m 16 (lit≤ tt) (lit< tt)));
-        texture4-is = sym (size-none d 17 (m 17 (lit≤ tt) (lit< tt)));
-        texture5-is = sym (size-none d 18 (m 18 (lit≤ tt) (lit< tt)));
-        texture6-is = sym (size-none d 19 (m 19 (lit≤ tt) (lit< tt)));
-        texture7-is = sym (size-none d 20 (m 20 (lit≤ tt) (lit< tt)));
+        texture1-is = m 14 (lit≤ tt) (lit< tt);
+        texture2-is = m 15 (lit≤ tt) (lit< tt);
+        texture3-is = m 16 (lit≤ tt) (lit< tt);
+        texture4-is = m 17 (lit≤ tt) (lit< tt);
+        texture5-is = m 18 (lit≤ tt) (lit< tt);
+        texture6-is = m 19 (lit≤ tt) (lit< tt);
+        texture7-is = m 20 (lit≤ tt) (lit< tt);
         unknown-is = u0 ∙ sym (any-none a 7 (omega arith));
       }
-
-  -- none at all
-  pub none-of : AbsentFrom d 13 → (found : Bool) → found ≡ anyUnknown d 13
-      → (_≡_ {A = ℕ} 0 (sizeOf d 13)) × (found ≡ anyUnknown d 14) × AbsentFrom d 14
-  none-of a found f =
-      let m : modeOf d 13 ≡ 0 = a .absent 13 (lit≤ tt) (lit< tt) in
-      (sym (size-none d 13 m), f ∙ sym (any-absent d 13 m), record { absent = λ k g h. a .absent k (omega arith) h })

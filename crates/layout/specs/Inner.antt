@@ -14,6 +14,10 @@ use Rattle.layout.specs.Fields.{bitsAt, placeIn, shifts, modeOf, countOf
 use Rattle.layout.specs.Sizes.{isColour, directOf, indexWidth, sizeOf, offsetOf, anyUnknown}
 use Rattle.layout.specs.Answers.{meaning, refusalOf, lengthOf}
 
+-- the descriptor of five words
+abbrev pub asked : ℕ → ℕ → ℕ → ℕ → ℕ → Descriptor
+asked a b c e f = record { vcd0 = a; vcd1 = b; vat0 = c; vat1 = e; vat2 = f }
+
 -- what the VAT says of attribute k
 abbrev pub vatOf : Descriptor → ℕ → Vat
 vatOf d k = record { count = countOf d k; format = formatOf d k; shift = bitsAt d (placeIn shifts k) 32 }
@@ -35,21 +39,21 @@ pub record PartBy (mode direct indices : ℕ) (none : Bool) (r : Part) : Type 0 
 abbrev pub WeighedBy : ℕ → ℕ → ℕ → ℕ → ℕ → Part → Type 0
 WeighedBy k mode count format indices r = PartBy mode (directOf k count format) indices (leb (cond (isColour k) 6 5) format) r
 
--- the position, the normal and the colours
+-- the attributes in group 0 of the VAT
 pub record ForeOf (d : Descriptor) (r : Fore) : Type 0 where
   pub position-is : r .position ≡ sizeOf d 9
   pub normal-is : r .normal ≡ sizeOf d 10
   pub colour0-is : r .colour0 ≡ sizeOf d 11
   pub colour1-is : r .colour1 ≡ sizeOf d 12
-  pub unknown-is : r .unknown ≡ anyUnknown d 13
+  pub texture0-is : r .texture0 ≡ sizeOf d 13
+  pub unknown-is : r .unknown ≡ anyUnknown d 14
 
 -- no attribute from n on is present
 pub record AbsentFrom (d : Descriptor) (n : ℕ) : Type 0 where
   pub absent : (k : ℕ) → n ≤ k → k < 21 → modeOf d k ≡ 0
 
--- the textures, and whether any attribute is in an unknown format
+-- the other textures, and whether any attribute is in an unknown format
 pub record TexturesOf (d : Descriptor) (r : Textures) : Type 0 where
-  pub texture0-is : r .texture0 ≡ sizeOf d 13
   pub texture1-is : r .texture1 ≡ sizeOf d 14
   pub texture2-is : r .texture2 ≡ sizeOf d 15
   pub texture3-is : r .texture3 ≡ sizeOf d 16

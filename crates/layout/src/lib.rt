@@ -222,7 +222,7 @@ fn sizes(d: Descriptor, fore: Fore, textures: Textures) -> [u8; 21]
         fore.normal as u8,
         fore.colour0 as u8,
         fore.colour1 as u8,
-        textures.texture0 as u8,
+        fore.texture0 as u8,
         textures.texture1 as u8,
         textures.texture2 as u8,
         textures.texture3 as u8,
@@ -269,9 +269,14 @@ fn refuse(reason: Reason) -> Layout
 pub fn lay_out(d: Descriptor) -> Layout
     ensures { λ r. ⌜ Laid d r ⌝ }
 {
-    let fore = parts::weigh_fore(d);
-    let textures = parts::weigh_textures(d, fore.unknown);
-    if (d.vcd0 >> 9) % 4 == 0 {
+    let vcd0 = d.vcd0;
+    let vcd1 = d.vcd1;
+    let vat0 = d.vat0;
+    let vat1 = d.vat1;
+    let vat2 = d.vat2;
+    let fore = parts::weigh_fore(vcd0, vcd1, vat0, vat1, vat2);
+    let textures = parts::weigh_textures(vcd0, vcd1, vat0, vat1, vat2, fore.unknown);
+    if (vcd0 >> 9) % 4 == 0 {
         return refuse(Reason::PositionAbsent);
     }
     if textures.unknown {

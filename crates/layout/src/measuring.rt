@@ -36,7 +36,7 @@ fn before(d: Descriptor, k: usize, fore: Fore, textures: Textures) -> u32
     let at11 = at10 + fore.normal;
     let at12 = at11 + fore.colour0;
     let at13 = at12 + fore.colour1;
-    let at14 = at13 + textures.texture0;
+    let at14 = at13 + fore.texture0;
     let at15 = at14 + textures.texture1;
     let at16 = at15 + textures.texture2;
     let at17 = at16 + textures.texture3;
@@ -101,8 +101,13 @@ fn measured(d: Descriptor, fore: Fore, textures: Textures) -> Extent
 pub fn measure(d: Descriptor) -> Extent
     ensures { λ r. ⌜ Measured d r ⌝ }
 {
-    let fore = parts::weigh_fore(d);
-    let textures = parts::weigh_textures(d, fore.unknown);
+    let vcd0 = d.vcd0;
+    let vcd1 = d.vcd1;
+    let vat0 = d.vat0;
+    let vat1 = d.vat1;
+    let vat2 = d.vat2;
+    let fore = parts::weigh_fore(vcd0, vcd1, vat0, vat1, vat2);
+    let textures = parts::weigh_textures(vcd0, vcd1, vat0, vat1, vat2, fore.unknown);
     measured(d, fore, textures)
 }
 
@@ -110,8 +115,13 @@ pub fn measure(d: Descriptor) -> Extent
 pub fn find(d: Descriptor, k: usize) -> Spot
     ensures { λ r. ⌜ SpotOf d k r ⌝ }
 {
-    let fore = parts::weigh_fore(d);
-    let textures = parts::weigh_textures(d, fore.unknown);
+    let vcd0 = d.vcd0;
+    let vcd1 = d.vcd1;
+    let vat0 = d.vat0;
+    let vat1 = d.vat1;
+    let vat2 = d.vat2;
+    let fore = parts::weigh_fore(vcd0, vcd1, vat0, vat1, vat2);
+    let textures = parts::weigh_textures(vcd0, vcd1, vat0, vat1, vat2, fore.unknown);
     let extent = measured(d, fore, textures);
     let answer = extent.answer;
     Spot {

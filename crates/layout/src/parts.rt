@@ -3,8 +3,8 @@ use crate::Descriptor;
 use crate::colour_width;
 ghost use mathlib.Core.Path.{_≡_};
 ghost use Prim.Native.Nat.{_+_, _*_, _<_};
-ghost use Rattle.layout.specs.Sizes.{sizeOf, anyUnknown};
-ghost use Rattle.layout.specs.Inner.{halfByte, normalIndices, AbsentFrom, PartBy, WeighedBy, ForeOf, TexturesOf};
+ghost use Rattle.layout.specs.Sizes.{anyUnknown};
+ghost use Rattle.layout.specs.Inner.{asked, halfByte, normalIndices, AbsentFrom, PartBy, WeighedBy, ForeOf, TexturesOf};
 
 // What one attribute adds: its bytes, and whether it is present in a format that is none.
 pub struct Part {
@@ -12,18 +12,18 @@ pub struct Part {
     pub unknown: bool,
 }
 
-// The bytes of the position, the normal and the colours, and whether one of them is present in a format that is none.
+// The bytes of the attributes in group 0 of the VAT, and whether one of them is present in a format that is none.
 pub struct Fore {
     pub position: u32,
     pub normal: u32,
     pub colour0: u32,
     pub colour1: u32,
+    pub texture0: u32,
     pub unknown: bool,
 }
 
-// The bytes of the eight textures, and whether an attribute is present in a format that is none.
+// The bytes of the other textures, and whether an attribute is present in a format that is none.
 pub struct Textures {
-    pub texture0: u32,
     pub texture1: u32,
     pub texture2: u32,
     pub texture3: u32,
@@ -125,52 +125,85 @@ pub fn normal_indices(vat0: u32) -> u32
     3
 }
 
-// The position, the normal and the colours; the last three are not looked at where their six bits are clear.
-pub fn weigh_fore(d: Descriptor) -> Fore
-    ensures { λ r. ⌜ ForeOf d r ⌝ }
+// The attributes in group 0 of the VAT; normal and colours are not looked at where their six bits are clear.
+pub fn weigh_fore(vcd0: u32, vcd1: u32, vat0: u32, vat1: u32, vat2: u32) -> Fore
+    ensures { λ r. ⌜ ForeOf (asked vcd0 vcd1 vat0 vat1 vat2) r ⌝ }
 {
-    let vcd = d.vcd0;
-    let vat = d.vat0;
-    let p = position((vcd >> 9) % 4, (vat >> 0) % 2, (vat >> 1) % 8);
-    if (vcd >> 11) % 64 == 0 {
+    let p = position((vcd0 >> 9) % 4, (vat0 >> 0) % 2, (vat0 >> 1) % 8);
+    let t = texture((vcd1 >> 0) % 4, (vat0 >> 21) % 2, (vat0 >> 22) % 8);
+    if (vcd0 >> 11) % 64 == 0 {
         return Fore {
             position: p.bytes,
             normal: 0,
             colour0: 0,
             colour1: 0,
-            unknown: p.unknown,
+            texture0: t.bytes,
+            unknown: p.unknown | t.unknown,
         };
     }
-    let indices = normal_indices(vat);
-    let n = normal((vcd >> 11) % 4, (vat >> 9) % 2, (vat >> 10) % 8, indices);
-    let c = colour((vcd >> 13) % 4, (vat >> 14) % 8);
-    let e = colour((vcd >> 15) % 4, (vat >> 18) % 8);
+    let indices = normal_indices(vat0);
+    let n = normal((vcd0 >> 11) % 4, (vat0 >> 9) % 2, (vat0 >> 10) % 8, indices);
+    let c = colour((vcd0 >> 13) % 4, (vat0 >> 14) % 8);
+    let e = colour((vcd0 >> 15) % 4, (vat0 >> 18) % 8);
     Fore {
         position: p.bytes,
         normal: n.bytes,
         colour0: c.bytes,
         colour1: e.bytes,
-        unknown: p.unknown | n.unknown | c.unknown | e.unknown,
+        texture0: t.bytes,
+        unknown: p.unknown | n.unknown | c.unknown | e.unknown | t.unknown,
     }
 }
 
-// The textures, of which the first is weighed.
-fn past_first(d: Descriptor, first: u32, found: bool) -> Textures
-    requires { ⌜ (first ≡ sizeOf d 13) × (found ≡ anyUnknown d 14) ⌝ }
+// No texture past the first.
+fn absent_textures(d: Descriptor, found: bool) -> Textures
+    requires { ⌜ (found ≡ anyUnknown d 14) × AbsentFrom d 14 ⌝ }
     ensures { λ r. ⌜ TexturesOf d r ⌝ }
 {
-    let vcd = d.vcd1;
-    let low = d.vat1;
-    let high = d.vat2;
-    let b = texture((vcd >> 2) % 4, (low >> 0) % 2, (low >> 1) % 8);
-    let c = texture((vcd >> 4) % 4, (low >> 9) % 2, (low >> 10) % 8);
-    let e = texture((vcd >> 6) % 4, (low >> 18) % 2, (low >> 19) % 8);
-    let f = texture((vcd >> 8) % 4, (low >> 27) % 2, (low >> 28) % 8);
-    let g = texture((vcd >> 10) % 4, (high >> 5) % 2, (high >> 6) % 8);
-    let h = texture((vcd >> 12) % 4, (high >> 14) % 2, (high >> 15) % 8);
-    let i = texture((vcd >> 14) % 4, (high >> 23) % 2, (high >> 24) % 8);
     Textures {
-        texture0: first,
+        texture1: 0,
+        texture2: 0,
+        texture3: 0,
+        texture4: 0,
+        texture5: 0,
+        texture6: 0,
+        texture7: 0,
+        unknown: found,
+    }
+}
+
+// The textures past the first, after attributes of which some may be in no format; they are not looked at where their bits are clear.
+pub fn weigh_textures(
+    vcd0: u32,
+    vcd1: u32,
+    vat0: u32,
+    vat1: u32,
+    vat2: u32,
+    found: bool,
+) -> Textures
+    requires { ⌜ found ≡ anyUnknown (asked vcd0 vcd1 vat0 vat1 vat2) 14 ⌝ }
+    ensures { λ r. ⌜ TexturesOf (asked vcd0 vcd1 vat0 vat1 vat2) r ⌝ }
+{
+    if (vcd1 >> 2) % 0x4000 == 0 {
+        return absent_textures(
+            Descriptor {
+                vcd0,
+                vcd1,
+                vat0,
+                vat1,
+                vat2,
+            },
+            found,
+        );
+    }
+    let b = texture((vcd1 >> 2) % 4, (vat1 >> 0) % 2, (vat1 >> 1) % 8);
+    let c = texture((vcd1 >> 4) % 4, (vat1 >> 9) % 2, (vat1 >> 10) % 8);
+    let e = texture((vcd1 >> 6) % 4, (vat1 >> 18) % 2, (vat1 >> 19) % 8);
+    let f = texture((vcd1 >> 8) % 4, (vat1 >> 27) % 2, (vat1 >> 28) % 8);
+    let g = texture((vcd1 >> 10) % 4, (vat2 >> 5) % 2, (vat2 >> 6) % 8);
+    let h = texture((vcd1 >> 12) % 4, (vat2 >> 14) % 2, (vat2 >> 15) % 8);
+    let i = texture((vcd1 >> 14) % 4, (vat2 >> 23) % 2, (vat2 >> 24) % 8);
+    Textures {
         texture1: b.bytes,
         texture2: c.bytes,
         texture3: e.bytes,
@@ -187,39 +220,4 @@ fn past_first(d: Descriptor, first: u32, found: bool) -> Textures
             | h.unknown
             | i.unknown,
     }
-}
-
-// The textures where no other than the first is present.
-fn only_first(d: Descriptor, first: u32, found: bool) -> Textures
-    requires { ⌜ (first ≡ sizeOf d 13) × (found ≡ anyUnknown d 14) × AbsentFrom d 14 ⌝ }
-    ensures { λ r. ⌜ TexturesOf d r ⌝ }
-{
-    Textures {
-        texture0: first,
-        texture1: 0,
-        texture2: 0,
-        texture3: 0,
-        texture4: 0,
-        texture5: 0,
-        texture6: 0,
-        texture7: 0,
-        unknown: found,
-    }
-}
-
-// The textures, after attributes of which some may be in no format; those are not looked at whose bits are clear.
-pub fn weigh_textures(d: Descriptor, found: bool) -> Textures
-    requires { ⌜ found ≡ anyUnknown d 13 ⌝ }
-    ensures { λ r. ⌜ TexturesOf d r ⌝ }
-{
-    let vcd = d.vcd1;
-    let vat = d.vat0;
-    if vcd % 0x10000 == 0 {
-        return only_first(d, 0, found);
-    }
-    let a = texture((vcd >> 0) % 4, (vat >> 21) % 2, (vat >> 22) % 8);
-    if (vcd >> 2) % 0x4000 == 0 {
-        return only_first(d, a.bytes, found | a.unknown);
-    }
-    past_first(d, a.bytes, found | a.unknown)
 }

@@ -2,10 +2,12 @@
 mod raw;
 
 use layout::Descriptor;
+use layout::Field;
 use layout::LayoutAnswer;
 use refusal::Reason;
 ghost use mathlib.Core.Path.{_≡_};
 ghost use Prim.Native.Nat.{_<_, _≤_};
+ghost use Rattle.layout.specs.Fields.{fieldOf};
 ghost use Rattle.vertex.specs.Attributes.{componentAt, tripleAt, positionAt, componentList, directList, indexList, attributeList};
 ghost use Rattle.vertex.specs.Answers.{told, located, locationOf, Decodes, RawIs};
 
@@ -140,11 +142,21 @@ fn read_indices(vertex: &[u8], at: u8, times: u32, n: u32) -> Attribute
     Attribute::Indices(x, y, z)
 }
 
+// What the descriptor says of attribute k; positions, which are asked for most, have a way of their own, with constant places.
+fn field_of(descriptor: Descriptor, k: usize) -> Field
+    ensures { λ r. ⌜ r ≡ fieldOf descriptor k ⌝ }
+{
+    if k == 9 {
+        return layout::read_field(descriptor, 9);
+    }
+    layout::read_field(descriptor, k)
+}
+
 // Attribute k, from its place in the vertex on.
 fn decode_at(descriptor: Descriptor, k: usize, vertex: &[u8], at: u8) -> Attribute
     ensures { λ r. ⌜ told r ≡ attributeList descriptor k (now (vertex .entry)) at ⌝ }
 {
-    let field = layout::read_field(descriptor, k);
+    let field = field_of(descriptor, k);
     let mode = field.mode;
     if mode == 0 {
         return Attribute::Absent;

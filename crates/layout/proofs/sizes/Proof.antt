@@ -56,7 +56,7 @@ cast-t35 c =
 cast-t36 : tie.Need-cast-t36
 cast-t36 c =
     let s = c .before .before .before .before .before in
-    omega (arith, s .pre .1 .texture0-is, size-small (s .args .d) 13)
+    omega (arith, s .pre .0 .texture0-is, size-small (s .args .d) 13)
 
 cast-t37 : tie.Need-cast-t37
 cast-t37 c =

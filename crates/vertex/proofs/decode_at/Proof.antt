@@ -13,12 +13,12 @@ use Rattle.vertex.proofs.decode_at.Statement.{statement}
 use Rattle.vertex.proofs.decode_at.Tie as tie
 
 -- what the field says
-mode-is : (c : tie.After-read-field) → c .read-field .result .mode ≡ modeOf (c .before .before .args .descriptor)
+mode-is : (c : tie.After-field-of) → c .field-of .result .mode ≡ modeOf (c .before .before .args .descriptor)
     (c .before .before .args .k)
-mode-is c = ap (λ (f : Field). f .mode) (c .read-field .ensures)
+mode-is c = ap (λ (f : Field). f .mode) (c .field-of .ensures)
 
-read-field-requires : tie.Need-read-field-requires
-read-field-requires c κs = search needs
+field-of-requires : tie.Need-field-of-requires
+field-of-requires c κs = search needs
 
 returns : tie.Need-returns
 returns c =
@@ -45,9 +45,9 @@ returns-3 c =
     let at = c .before .before .before .before in
     let a = at .before .before .args in
     let d = a .descriptor in
-    let f = at .read-field .result in
+    let f = at .field-of .result in
     c .read-direct .ensures
-    ∙ ap (λ (x : Field). directList (a .vertex .now) (a .at) (a .k) (x .count) (x .format) (x .fraction)) (at .read-field .ensures)
+    ∙ ap (λ (x : Field). directList (a .vertex .now) (a .at) (a .k) (x .count) (x .format) (x .fraction)) (at .field-of .ensures)
     ∙ sym (attribute-direct d (a .k) (a .vertex .now) (a .at) (c .before .before .if2 .left) (sym (mode-is at) ∙ c .before .if3 .taken))
 
 sub-read-indices : tie.Need-sub-read-indices
@@ -65,7 +65,7 @@ returns-4 c =
     let a = at .before .before .args in
     let d = a .descriptor in
     c .read-indices .ensures
-    ∙ ap (λ (x : Field). indexList (a .vertex .now) (a .at) (x .indices) (x .mode - 1)) (at .read-field .ensures)
+    ∙ ap (λ (x : Field). indexList (a .vertex .now) (a .at) (x .indices) (x .mode - 1)) (at .field-of .ensures)
     ∙ sym (attribute-indexed d (a .k) (a .vertex .now) (a .at) (λ e. c .before .before .before .if1 .left (mode-is at ∙ e))
     (c .before .before .if2 .left)
     (λ e. c .before .if3 .left (mode-is at ∙ e)))
@@ -74,7 +74,7 @@ pub decode-at-spec : {M : Type 1} → statement M
 decode-at-spec =
     tie.close
     (tie.spec
-    read-field-requires
+    field-of-requires
     returns
     read-requires
     returns-2

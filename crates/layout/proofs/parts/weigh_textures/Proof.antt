@@ -1,14 +1,20 @@
--- The first texture is weighed, and the others where one of them is present.
-use Rattle.layout.proofs.Present.{none-present, first-present}
-use Rattle.layout.proofs.Weighed.{first-of, none-of}
+-- Each texture is weighed by its fields at their places; absent ones add nothing.
+use Rattle.layout.specs.declared.Descriptor.{Descriptor}
+use Rattle.layout.specs.Inner.{asked}
+use Rattle.layout.proofs.Present.{textures-absent}
+use Rattle.layout.proofs.Weighed.{textures-of}
 use borrow.Author.Needs.{needs}
 use Rattle.layout.proofs.parts.weigh_textures.Statement.{statement}
 use Rattle.layout.proofs.parts.weigh_textures.Tie as tie
 
-only-first-requires : tie.Need-only-first-requires
-only-first-requires c κs =
+-- the descriptor of the five words
+abbrev descriptor : tie.Start → Descriptor
+descriptor s = asked (s .args .vcd0) (s .args .vcd1) (s .args .vat0) (s .args .vat1) (s .args .vat2)
+
+absent-textures-requires : tie.Need-absent-textures-requires
+absent-textures-requires c κs =
     let s = c .before in
-    none-of (s .args .d) (none-present (s .args .d) (c .if1 .taken)) (s .args .found) (s .pre)
+    (s .pre, textures-absent (descriptor s) (c .if1 .taken))
 
 returns : tie.Need-returns
 returns c = search needs
@@ -16,31 +22,47 @@ returns c = search needs
 texture-requires : tie.Need-texture-requires
 texture-requires c κs = search needs
 
-only-first-requires-2 : tie.Need-only-first-requires-2
-only-first-requires-2 c κs =
-    let s = c .before .before .before .before in
-    let h = first-of (s .args .d) _ (c .before .before .texture .ensures) (s .args .found) (s .pre) in
-    (h .0, h .1, first-present (s .args .d) (c .before .if2 .taken))
+texture-requires-2 : tie.Need-texture-requires-2
+texture-requires-2 c κs = search needs
+
+texture-requires-3 : tie.Need-texture-requires-3
+texture-requires-3 c κs = search needs
+
+texture-requires-4 : tie.Need-texture-requires-4
+texture-requires-4 c κs = search needs
+
+texture-requires-5 : tie.Need-texture-requires-5
+texture-requires-5 c κs = search needs
+
+texture-requires-6 : tie.Need-texture-requires-6
+texture-requires-6 c κs = search needs
+
+texture-requires-7 : tie.Need-texture-requires-7
+texture-requires-7 c κs = search needs
 
 returns-2 : tie.Need-returns-2
-returns-2 c = search needs
-
-past-first-requires : tie.Need-past-first-requires
-past-first-requires c κs =
-    let s = c .before .before .before .before in
-    first-of (s .args .d) _ (c .before .before .texture .ensures) (s .args .found) (s .pre)
-
-returns-3 : tie.Need-returns-3
-returns-3 c = search needs
+returns-2 c =
+    let b = c .before .before .before .before .before .before .before .before .before .before .before .before .before in
+    let s = b .before .before in
+    textures-of (descriptor s) (s .args .found) _ _ _ _ _ _ _ (s .pre) (b .texture .ensures)
+    (c .before .before .before .before .before .before .before .before .before .before .before .before .texture2 .ensures)
+    (c .before .before .before .before .before .before .before .before .before .before .before .texture3 .ensures)
+    (c .before .before .before .before .before .before .before .before .before .before .texture4 .ensures)
+    (c .before .before .before .before .before .before .before .before .before .texture5 .ensures)
+    (c .before .before .before .before .before .before .before .before .texture6 .ensures)
+    (c .before .before .before .before .before .before .before .texture7 .ensures)
 
 pub weigh-textures-spec : {M : Type 1} → statement M
 weigh-textures-spec =
     tie.close
     (tie.spec
-    only-first-requires
+    absent-textures-requires
     returns
     texture-requires
-    only-first-requires-2
-    returns-2
-    past-first-requires
-    returns-3)
+    texture-requires-2
+    texture-requires-3
+    texture-requires-4
+    texture-requires-5
+    texture-requires-6
+    texture-requires-7
+    returns-2)

@@ -1,0 +1,3 @@
+pub mod Tens
+pub mod Untold
+pub mod Wholly
