@@ -8,7 +8,7 @@ use crate::streams::{
     bp_loads, cp_loads, draws, long_draw, mixed, no_operations, repeated, xf_loads, Stream,
 };
 use crate::timing::Sides;
-use crate::vertices::{attributes, layouts, positions};
+use crate::vertices::{attributes, layouts, positions, whole_vertices};
 use crate::which::Which;
 use model::words::FormatWords;
 
@@ -143,6 +143,11 @@ pub fn rows() -> Vec<Row> {
         "21 decodes of a 129-byte vertex",
         "vertex",
         attributes,
+    ));
+    rows.push(plain_row(
+        "a whole 129-byte vertex by one call",
+        "vertex",
+        whole_vertices,
     ));
     rows
 }

@@ -32,7 +32,7 @@ fn compared<T: std::fmt::Debug, V: PartialEq>(
 }
 
 /// A side that does the same for each input, again and again.
-fn again<T: Clone + 'static>(inputs: &[T], work: impl Fn(&T) + 'static) -> Box<dyn Side> {
+fn again<T: Clone + 'static>(inputs: &[T], mut work: impl FnMut(&T) + 'static) -> Box<dyn Side> {
     let inputs = inputs.to_vec();
     let times = ROUNDS * inputs.len();
     Box::new(Stateless(move || {
@@ -170,4 +170,52 @@ pub fn positions(which: &[Which]) -> Result<Sides, String> {
 /// All attributes of the longest vertices, one after the other.
 pub fn attributes(which: &[Which]) -> Result<Sides, String> {
     decodes(which, LONGEST, 0..ATTRIBUTES as u32)
+}
+
+type Values = [ValueWords; ATTRIBUTES];
+
+/// Plain Rust has no call for a whole vertex: one for each attribute; the last one's
+/// answer.
+fn one_by_one(format: &FormatWords, vertex: &[u8], values: &mut Values) -> u32 {
+    let numbered = values.iter_mut().zip(0..);
+    let answers = numbered.map(|(values, k)| words::decode(format, k, vertex, values));
+    answers.last().unwrap_or(0)
+}
+
+/// A side that has all attributes told to the same place again and again.
+fn again_whole(
+    vertices: &[Vec<u8>],
+    call: impl Fn(&FormatWords, &[u8], &mut Values) -> u32 + 'static,
+) -> Box<dyn Side> {
+    let mut values = Box::new([[0; 10]; ATTRIBUTES]);
+    again(vertices, move |vertex| {
+        black_box(call(black_box(&LONGEST), vertex, &mut values));
+        black_box(&mut values);
+    })
+}
+
+/// All attributes of the longest vertices by one call; of plain Rust as above.
+pub fn whole_vertices(which: &[Which]) -> Result<Sides, String> {
+    let vertices = vertices(&LONGEST);
+    let told = |which, vertex: &Vec<u8>| {
+        let mut values = [[0; 10]; ATTRIBUTES];
+        let answer = match which {
+            Which::Proved => proved::decode_all(&LONGEST, vertex, &mut values),
+            #[cfg(hand_c)]
+            Which::C => hand::decode_all(&LONGEST, vertex, &mut values),
+            Which::Rust => one_by_one(&LONGEST, vertex, &mut values),
+        };
+        (answer, values)
+    };
+    let side = |which| match which {
+        Which::Proved => again_whole(&vertices, proved::decode_all),
+        #[cfg(hand_c)]
+        Which::C => again_whole(&vertices, hand::decode_all),
+        Which::Rust => again(&vertices, |vertex| {
+            for k in 0..ATTRIBUTES as u8 {
+                let _ = black_box(decode(&format_of(&LONGEST), black_box(k), vertex));
+            }
+        }),
+    };
+    compared(which, &vertices, told, side)
 }

@@ -57,7 +57,7 @@ fn vertex(format: &FormatWords, random: &mut Random) -> Vec<u8> {
     vertex
 }
 
-/// One call for all attributes beside the proved library's one for each.
+/// One call for all attributes beside the proved library's, and beside its one for each.
 fn whole_vertices(seed: u64, times: u32) {
     let mut random = Random::new(seed);
     for _ in 0..times {
@@ -74,6 +74,13 @@ fn whole_vertices(seed: u64, times: u32) {
             (told, values),
             (answer, expected),
             "{format:X?} {vertex:X?}"
+        );
+        let mut values = [BEFORE; ATTRIBUTES];
+        let told = proved::decode_all(&format, &vertex, &mut values);
+        assert_eq!(
+            (told, values),
+            (answer, expected),
+            "proved, {format:X?} {vertex:X?}"
         );
     }
 }

@@ -64,6 +64,12 @@ mod c {
             vertex_len: usize,
             values: *mut u32,
         ) -> u32;
+        pub fn duckhammock_decode_all(
+            format: *const u32,
+            vertex: *const u8,
+            vertex_len: usize,
+            values: *mut u32,
+        ) -> u32;
         pub fn duckhammock_raw_words(
             format: *const u32,
             attribute: u32,
@@ -240,6 +246,24 @@ pub fn decode(format: &FormatWords, attribute: u32, vertex: &[u8], values: &mut 
             place(vertex, &0),
             vertex.len(),
             values.as_mut_ptr(),
+        )
+    }
+}
+
+/// All attributes of a vertex, in their order.
+pub fn decode_all(
+    format: &FormatWords,
+    vertex: &[u8],
+    values: &mut [ValueWords; ATTRIBUTES],
+) -> u32 {
+    // SAFETY: three places that don't overlap, each lent for the call with its
+    // own length; the values lie one after the other.
+    unsafe {
+        c::duckhammock_decode_all(
+            format.as_ptr(),
+            place(vertex, &0),
+            vertex.len(),
+            values.as_flattened_mut().as_mut_ptr(),
         )
     }
 }
