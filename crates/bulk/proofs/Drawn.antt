@@ -15,13 +15,13 @@ use Rattle.command.specs.declared.Draw.the-variants.{Open}
 use Rattle.command.specs.Command.{vertex, drawHead}
 use Rattle.octets.specs.BigEndian.{bigEndian}
 use Rattle.octets.proofs.Number.{two-bytes}
-use Rattle.command.specs.Look.{vertexBytes}
+use Rattle.command.specs.Look.{descriptorOf, vertexBytes}
 use Rattle.command.proofs.Decided.{looks-vertex, looks-head}
 use Rattle.effect.specs.Effect.{cpAfter, bpAfter, xfAfter, vertexAfter, drawAfter, openedBy, countedDown, copied}
 use Rattle.walk.specs.Flat.{Core, coreOf, coreAfter}
 use Rattle.walk.specs.Moves.{Moves, shut}
 use Rattle.walk.proofs.Walks.{rest-at, first-at, there, One, moves-none, moves-next, moves-then}
-use Rattle.bulk.specs.Inner.{Fits, copiedAt, MovesVertices, MovesOpen}
+use Rattle.bulk.specs.Inner.{Known, Sized, Fits, copiedAt, MovesVertices, MovesOpen}
 
 -- ---- a vertex over another of as many bytes
 over-by : (t : Bool) (u v buffer : List ℕ) → length u ≡ length v → leb (length u) (length buffer) ≡ t
@@ -179,14 +179,23 @@ module _ {bytes : List ℕ} {from p f left size : ℕ} {buffer : List ℕ} {most
 
 -- ---- a draw that is open
 
-pub open-none : {bytes cp : List ℕ} {draw : Draw} {buffer : List ℕ} {most : ℕ} → MovesOpen bytes cp draw buffer most 0 0 draw buffer
-open-none = record { any = λ bp xf. moves-none }
+-- a format counts modulo 8
+size-modulo : (cp : List ℕ) (f : ℕ) → vertexBytes cp (f % 8) ≡ vertexBytes cp f
+unfolding descriptorOf
+size-modulo cp f = let e : f % 8 % 8 ≡ f % 8 = omega arith in rw e
+
+pub open-none : {bytes cp : List ℕ} {draw : Draw} {buffer : List ℕ} {most : ℕ} {sizes : List ℕ} → Known cp sizes
+    → MovesOpen bytes cp draw buffer most 0 0 draw sizes buffer
+open-none k = record { any = λ bp xf. moves-none; known = k }
 
 pub open-some : {bytes cp : List ℕ} {p f left size : ℕ} {buffer : List ℕ} {most units to : ℕ} {draw' : Draw} {buffer' : List ℕ}
-    → (left ≡ 0 → ⊥) → size ≡ vertexBytes cp f → MovesVertices bytes 0 p f left size buffer most units to draw' buffer'
-    → MovesOpen bytes cp (Open p f left) buffer most units to draw' buffer'
+    {sizes : List ℕ} → (left ≡ 0 → ⊥) → Sized cp (f % 8) size sizes → MovesVertices bytes 0 p f left size buffer most units to draw' buffer'
+    → MovesOpen bytes cp (Open p f left) buffer most units to draw' sizes buffer'
 open-some {bytes} {cp} {p} {f} {left} z e v =
-    record { any = λ bp xf. rw (opened p f left (omega (arith, z))) at (v .any cp bp xf e) }
+    record {
+      any = λ bp xf. rw (opened p f left (omega (arith, z))) at (v .any cp bp xf (e .size-is ∙ size-modulo cp f));
+      known = e .known;
+    }
 
 -- ---- a head
 

@@ -51,8 +51,9 @@ pub record MovesVertices (bytes : List ℕ) (from primitive format left size : �
 
 -- vertices of the draw that is open
 pub record MovesOpen (bytes cp : List ℕ) (draw : Draw) (buffer : List ℕ) (most units to : ℕ) (draw' : Draw)
-    (buffer' : List ℕ) : Type 0 where
+    (sizes' buffer' : List ℕ) : Type 0 where
   pub any : (bp xf : List ℕ) → Moves bytes 0 (coreOf cp bp draw xf buffer) most units to (coreOf cp bp draw' xf buffer')
+  pub known : Known cp sizes'
 
 -- a head with vertices of its draw
 pub record MovesDraw (bytes : List ℕ) (from : ℕ) (cp buffer : List ℕ) (most units to : ℕ) (draw' : Draw)

@@ -142,16 +142,18 @@ pub(crate) fn take_draw(
     }
 }
 
-// The whole vertices of an open draw, at most so many.
+// The whole vertices of an open draw, at most so many; the size of one is kept.
 pub(crate) fn take_open(
     bytes: &[u8],
     cp: &[u32; 60],
+    sizes: &mut [u8; 8],
     draw: Draw,
     buffer: &mut [u8],
     most: u32,
 ) -> Many
+    requires { ⌜ Known (now cp) (now sizes) ⌝ }
     ensures { λ r. ⌜ MovesOpen (now (bytes .entry)) (now (cp .entry)) draw (now (buffer .entry)) most (r .units) (r .at) (r .draw)
-        (now (buffer .exit)) ⌝ }
+        (now (sizes .exit)) (now (buffer .exit)) ⌝ }
 {
     match draw {
         Draw::Closed => Many {
@@ -171,7 +173,7 @@ pub(crate) fn take_open(
                     draw,
                 };
             }
-            let size = command::vertex_bytes(cp, format) as usize;
+            let size = size_of(cp, sizes, format % 8) as usize;
             if size == 0 {
                 return Many {
                     units: 0,

@@ -65,13 +65,13 @@ fn take_shut(
     bp: &mut [u32; 256],
     xf: &mut [u32],
     buffer: &mut [u8],
+    sizes: &mut [u8; 8],
     limit: u32,
 ) -> Many
-    requires { ⌜ from ≤ length (now bytes) ⌝ }
+    requires { ⌜ (from ≤ length (now bytes)) × Known (now cp) (now sizes) ⌝ }
     ensures { λ r. ⌜ Moves (now (bytes .entry)) from (shut (now (cp .entry)) (now (bp .entry)) (now (xf .entry)) (now (buffer .entry)))
         limit (r .units) (r .at) (coreOf (now (cp .exit)) (now (bp .exit)) (r .draw) (now (xf .exit)) (now (buffer .exit))) ⌝ }
 {
-    let mut sizes = [0u8; 8];
     let mut at = from;
     let mut units: u32 = 0;
     while units < limit {
@@ -82,7 +82,7 @@ fn take_shut(
                 draw: Draw::Closed,
             };
         }
-        let many = take_class(bytes, at, cp, bp, xf, buffer, &mut sizes, limit - units);
+        let many = take_class(bytes, at, cp, bp, xf, buffer, sizes, limit - units);
         at = many.at;
         units += many.units;
         let left = many.draw;
@@ -122,12 +122,22 @@ pub fn take_straight(
         (now (buffer .entry)))
         limit (r .units) (r .at) (coreOf (now (cp .exit)) (now (bp .exit)) (r .draw) (now (xf .exit)) (now (buffer .exit))) ⌝ }
 {
-    let first = draws::take_open(bytes, cp, draw, buffer, limit);
+    let mut sizes = [0u8; 8];
+    let first = draws::take_open(bytes, cp, &mut sizes, draw, buffer, limit);
     let left = first.draw;
     let Draw::Closed = left else {
         return first;
     };
-    let next = take_shut(bytes, first.at, cp, bp, xf, buffer, limit - first.units);
+    let next = take_shut(
+        bytes,
+        first.at,
+        cp,
+        bp,
+        xf,
+        buffer,
+        &mut sizes,
+        limit - first.units,
+    );
     let open = next.draw;
     Many {
         units: first.units + next.units,

@@ -7,8 +7,8 @@ use fifo::minus;
 use fifo::with_window;
 ghost use mathlib.Core.Path.{_≡_};
 ghost use mathlib.Core.List.{_++_};
-ghost use Prim.Native.Nat.{_≤_, min};
-ghost use lib.ListN.{length, drop};
+ghost use Prim.Native.Nat.{_+_, _≤_, min};
+ghost use lib.ListN.{length, take, drop};
 ghost use Rattle.laws.specs.Values.{upTo};
 ghost use Rattle.queue.specs.Cursor.{opened, onward, byteOf, peeked, copied, skipped, straightBy, closed};
 ghost use Rattle.queue.specs.Inner.{roundBy};
@@ -117,10 +117,34 @@ fn least(a: u32, b: u32) -> u32
     if a < b { a } else { b }
 }
 
+// Nine bytes of the ring from a place on.
+fn nine(ring: &[u8], at: usize) -> [u8; 9]
+    requires { ⌜ at + 9 ≤ length (now ring) ⌝ }
+    ensures { λ r. ⌜ r ≡ take 9 (drop at (now (ring .entry))) ⌝ }
+{
+    [
+        ring[at],
+        ring[at + 1],
+        ring[at + 2],
+        ring[at + 3],
+        ring[at + 4],
+        ring[at + 5],
+        ring[at + 6],
+        ring[at + 7],
+        ring[at + 8],
+    ]
+}
+
 // The first nine bytes, zeros past the last.
 pub fn peek(cursor: Cursor, ring: &[u8]) -> [u8; 9]
     ensures { λ r. ⌜ r ≡ peeked cursor (now (ring .entry)) ⌝ }
 {
+    let at = cursor.at as usize;
+    if straight(cursor, 9) {
+        if at + 9 <= ring.len() {
+            return nine(ring, at);
+        }
+    }
     let mut bytes = [0u8; 9];
     copy(cursor, ring, &mut bytes, least(cursor.left, 9));
     bytes

@@ -7,20 +7,19 @@ use borrow.Author.Needs.{needs}
 use Rattle.walk.specs.Moves.{Moves, shut}
 use Rattle.walk.proofs.Walks.{moves-none, moves-then}
 use Rattle.bulk.specs.Inner.{Known}
-use Rattle.bulk.proofs.Sizes.{known-none}
 use Rattle.bulk.proofs.straight.take_shut.Statement.{statement}
 use Rattle.bulk.proofs.straight.take_shut.Tie as tie
 
 abbrev Inv-loop : tie.InvT-loop
-Inv-loop bytes from cp₀ bp₀ xf₀ buffer₀ limit sizes₀ at₀ units₀ cp bp xf buffer sizes at units =
+Inv-loop bytes from cp₀ bp₀ xf₀ buffer₀ sizes₀ limit at₀ units₀ cp bp xf buffer sizes at units =
     (length xf ≡ length xf₀) × ((length buffer ≡ length buffer₀) × ((at ≤ length bytes) × ((units ≤ limit)
     × (Known cp sizes × Moves bytes from (shut cp₀ bp₀ xf₀ buffer₀) limit units at (shut cp bp xf buffer)))))
 
 abbrev μ-loop : tie.MeasureT-loop
-μ-loop bytes from cp₀ bp₀ xf₀ buffer₀ limit sizes₀ at₀ units₀ cp bp xf buffer sizes at units = limit - units
+μ-loop bytes from cp₀ bp₀ xf₀ buffer₀ sizes₀ limit at₀ units₀ cp bp xf buffer sizes at units = limit - units
 
 loop-holds : tie.Need-loop-holds Inv-loop μ-loop
-loop-holds c = (refl, (refl, (c .before .before .before .pre, (omega arith, (known-none _, moves-none)))))
+loop-holds c = (refl, (refl, (c .before .before .before .pre .0, (omega arith, (c .before .before .before .pre .1, moves-none)))))
 
 same-length : tie.Need-same-length Inv-loop μ-loop
 same-length c = search needs
@@ -54,10 +53,9 @@ same-length-4 c = search needs
 
 returns-2 : tie.Need-returns-2 Inv-loop μ-loop
 returns-2 c =
-    let c7 = c .before .before .before .before .before .before .before in
-    let c15 = c7 .before .before .before .before .before .before .before .before in
-    let l = c15 .loop .inv in
-    moves-then (l .1 .1 .1 .1 .1) (c7 .take-class .ensures .moves) (omega arith)
+    let d = c .before .before .before .before .before .before .before in
+    let l = d .before .before .before .before .before .before .before .before .loop .inv in
+    moves-then (l .1 .1 .1 .1 .1) (d .take-class .ensures .moves) (omega arith)
 
 same-length-5 : tie.Need-same-length-5 Inv-loop μ-loop
 same-length-5 c = search needs
@@ -67,10 +65,9 @@ same-length-6 c = search needs
 
 returns-3 : tie.Need-returns-3 Inv-loop μ-loop
 returns-3 c =
-    let c9 = c .before .before .before .before .before .before .before .before .before in
-    let c17 = c9 .before .before .before .before .before .before .before .before in
-    let l = c17 .loop .inv in
-    let m = c9 .take-class .ensures .moves in
+    let d = c .before .before .before .before .before .before .before .before .before in
+    let l = d .before .before .before .before .before .before .before .before .loop .inv in
+    let m = d .take-class .ensures .moves in
     moves-then (l .1 .1 .1 .1 .1) (rw (c .before .before .enum-told .given .1) at m) (omega arith)
 
 loop-less : tie.Need-loop-less Inv-loop μ-loop
@@ -78,27 +75,12 @@ loop-less c = omega (arith, c .before .before .before .before .before .before .b
 
 loop-again : tie.Need-loop-again Inv-loop μ-loop
 loop-again c =
-    let c9 = c .before .before .before .before .before .before .before .before .before in
-    let c17 = c9 .before .before .before .before .before .before .before .before in
-    let l = c17 .loop .inv in
-    let e = c9 .take-class .ensures in
-    let m = e .moves in (
-      search needs,
-      (
-        search needs,
-        (
-          m .inside (l .1 .1 .0),
-          (
-            omega (arith, m .within),
-            (
-              e .known,
-              moves-then (l .1 .1 .1 .1 .1) (rw (c .before .before .enum-told .given .1) at m)
-                  (omega arith),
-            ),
-          ),
-        ),
-      ),
-    )
+    let d = c .before .before .before .before .before .before .before .before .before in
+    let l = d .before .before .before .before .before .before .before .before .loop .inv in
+    let e = d .take-class .ensures in
+    let m = e .moves in
+    let next = moves-then (l .1 .1 .1 .1 .1) (rw (c .before .before .enum-told .given .1) at m) (omega arith) in
+    (search needs, (search needs, (m .inside (l .1 .1 .0), (omega (arith, m .within), (e .known, next)))))
 
 same-length-7 : tie.Need-same-length-7 Inv-loop μ-loop
 same-length-7 c = search needs

@@ -1,12 +1,13 @@
 -- `bulk::take_straight` meets its contract: the vertices of an open draw, and then the units from there on.
 use native.Mathlib.Omega.{arith}
 use Rattle.walk.proofs.Walks.{moves-then, moves-many}
+use Rattle.bulk.proofs.Sizes.{known-none}
 use borrow.Author.Needs.{needs}
 use Rattle.bulk.proofs.straight.take_straight.Statement.{statement}
 use Rattle.bulk.proofs.straight.take_straight.Tie as tie
 
 take-open-requires : tie.Need-take-open-requires
-take-open-requires c κs = search needs
+take-open-requires c κs = known-none _
 
 enum-told : tie.Need-enum-told
 enum-told c = search needs
@@ -22,26 +23,24 @@ returns c = moves-many (c .before .before .before .before .take-open .ensures .a
 
 sub-take-shut : tie.Need-sub-take-shut
 sub-take-shut c =
-    let c9 = c .before .before .before .before .before .before .before .before .before in
-    let c15 = c9 .before .before .before .before .before .before in
-    let a = c15 .args in
-    c9 .take-open .ensures .any (a .bp .now) (a .xf .now) .within
+    let o = c .before .before .before .before .before .before .before .before .before .before in
+    let a = o .before .before .before .before .before .before .before .args in
+    o .take-open .ensures .any (a .bp .now) (a .xf .now) .within
 
 take-shut-requires : tie.Need-take-shut-requires
 take-shut-requires c κs =
-    let c9 = c .before .before .before .before .before .before .before .before .before in
-    let c15 = c9 .before .before .before .before .before .before in
-    let a = c15 .args in
-    c9 .take-open .ensures .any (a .bp .now) (a .xf .now) .inside (omega arith)
+    let o = c .before .before .before .before .before .before .before .before .before .before in
+    let a = o .before .before .before .before .before .before .before .args in
+    let e = o .take-open .ensures in
+    (e .any (a .bp .now) (a .xf .now) .inside (omega arith), e .known)
 
-add-t21 : tie.Need-add-t21
-add-t21 c =
-    let c6 = c .before .before .before .before .before .before in
-    let c16 = c6 .before .before .before .before .before .before .before .before .before .before in
-    let c22 = c16 .before .before .before .before .before .before in
-    let p = c22 in
-    let o = c16 .take-open .ensures .any (p .args .bp .now) (p .args .xf .now) in
-    omega (arith, p .fits .limit, c6 .take-shut .ensures .within, o .within)
+add-t24 : tie.Need-add-t24
+add-t24 c =
+    let s = c .before .before .before .before .before .before in
+    let o = s .before .before .before .before .before .before .before .before .before .before .before in
+    let p = o .before .before .before .before .before .before .before in
+    let w = o .take-open .ensures .any (p .args .bp .now) (p .args .xf .now) in
+    omega (arith, p .fits .limit, s .take-shut .ensures .within, w .within)
 
 same-length-2 : tie.Need-same-length-2
 same-length-2 c = search needs
@@ -51,13 +50,11 @@ same-length-3 c = search needs
 
 returns-2 : tie.Need-returns-2
 returns-2 c =
-    let c6 = c .before .before .before .before .before .before in
-    let c12 = c6 .before .before .before .before .before .before in
-    let c16 = c12 .before .before .before .before in
-    let c22 = c16 .before .before .before .before .before .before in
-    let a = c22 .args in
-    let o = c16 .take-open .ensures .any (a .bp .now) (a .xf .now) in
-    moves-many (moves-then (rw (c12 .enum-told .given .1) at o) (c6 .take-shut .ensures) (omega (arith, o .within)))
+    let s = c .before .before .before .before .before .before in
+    let o = s .before .before .before .before .before .before .before .before .before .before .before in
+    let a = o .before .before .before .before .before .before .before .args in
+    let w = o .take-open .ensures .any (a .bp .now) (a .xf .now) in
+    moves-many (moves-then (rw (s .before .before .before .before .before .before .before .enum-told .given .1) at w) (s .take-shut .ensures) (omega (arith, w .within)))
 
 pub take-straight-spec : {M : Type 1} → statement M
 take-straight-spec =
@@ -70,7 +67,7 @@ take-straight-spec =
     returns
     sub-take-shut
     take-shut-requires
-    add-t21
+    add-t24
     same-length-2
     same-length-3
     returns-2)
