@@ -101,8 +101,11 @@ impl Tour {
     #[track_caller]
     fn decodes(&mut self, format: &FormatWords, attribute: u32, vertex: &[u8], values: &[u32]) {
         let (answer, told) = self.0.decode(format, attribute, vertex);
+        let (whole, all) = self.0.decode_all(format, vertex);
         self.same();
         assert_eq!((answer, &told[..]), (DONE, &ten(values)[..]));
+        let from = 10 * attribute as usize;
+        assert_eq!((whole, &all[from..from + 10]), (DONE, &told[..]));
     }
 
     #[track_caller]

@@ -16,6 +16,8 @@ pub type UnitWords = [u32; 6];
 pub type ReportWords = [u32; 2];
 /// A kind or a count, and nine values.
 pub type ValueWords = [u32; 10];
+/// So many for each attribute in order.
+pub type VertexWords = [u32; 210];
 
 mod c {
     unsafe extern "C" {
@@ -60,6 +62,12 @@ mod c {
         pub fn duckhammock_decode(
             format: *const u32,
             attribute: u32,
+            vertex: *const u8,
+            vertex_len: usize,
+            values: *mut u32,
+        ) -> u32;
+        pub fn duckhammock_decode_all(
+            format: *const u32,
             vertex: *const u8,
             vertex_len: usize,
             values: *mut u32,
@@ -237,6 +245,19 @@ pub fn decode(format: &FormatWords, attribute: u32, vertex: &[u8], values: &mut 
         c::duckhammock_decode(
             format.as_ptr(),
             attribute,
+            place(vertex, &0),
+            vertex.len(),
+            values.as_mut_ptr(),
+        )
+    }
+}
+
+pub fn decode_all(format: &FormatWords, vertex: &[u8], values: &mut VertexWords) -> u32 {
+    // SAFETY: three places that don't overlap, each lent for the call with its
+    // own length.
+    unsafe {
+        c::duckhammock_decode_all(
+            format.as_ptr(),
             place(vertex, &0),
             vertex.len(),
             values.as_mut_ptr(),
