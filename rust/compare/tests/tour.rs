@@ -115,13 +115,18 @@ impl Tour {
         assert_eq!((answer, &told[..]), (DONE, &ten(values)[..]));
     }
 
-    /// Both of them give the refusal.
+    /// All of them give the refusal.
     #[track_caller]
     fn not_decoded(&mut self, format: &FormatWords, attribute: u32, vertex: &[u8], refusal: u32) {
         let (decoded, _) = self.0.decode(format, attribute, vertex);
         let (raw, _) = self.0.raw_words(format, attribute, vertex);
+        let (whole, _) = self.0.decode_all(format, vertex);
         self.same();
         assert_eq!((decoded, raw), (refusal, refusal));
+        // A whole vertex has no attribute number that could be wrong.
+        if attribute < 21 || refusal != 19 {
+            assert_eq!(whole, refusal);
+        }
     }
 
     #[track_caller]
