@@ -41,6 +41,8 @@ extern "C" {
 #define DUCKHAMMOCK_FORMAT_WORDS 5
 /* What an attribute decodes to: its kind and nine values. */
 #define DUCKHAMMOCK_VALUE_WORDS 10
+/* A whole vertex: so many words for each of its attributes, in order. */
+#define DUCKHAMMOCK_VERTEX_WORDS 210
 /* The masks of a patch, and its numbers: one for each BP register. */
 #define DUCKHAMMOCK_PATCH_ENTRIES 256
 /* The longest command, an XF load of 16 words, and the longest patch. */
@@ -332,6 +334,15 @@ uint32_t duckhammock_decode(const uint32_t format[DUCKHAMMOCK_FORMAT_WORDS],
                             uint32_t attribute,
                             const uint8_t *vertex, size_t vertex_len,
                             uint32_t values[DUCKHAMMOCK_VALUE_WORDS]);
+
+/*
+ * Decodes a whole vertex of the layout's length: 9, 10, 19 (the length alone). It
+ * tells ten words for each attribute in order, word 10 k + i being what
+ * duckhammock_decode tells of attribute k in values[i].
+ */
+uint32_t duckhammock_decode_all(const uint32_t format[DUCKHAMMOCK_FORMAT_WORDS],
+                                const uint8_t *vertex, size_t vertex_len,
+                                uint32_t values[DUCKHAMMOCK_VERTEX_WORDS]);
 
 /*
  * The f32 components of one attribute as their bits stand in the vertex, a

@@ -67,7 +67,8 @@ next a k h n = omega arith
 pub beyond : (k : ℕ) → 9 ≤ k → (k ≡ 9 → ⊥) → (k ≡ 10 → ⊥) → (k ≡ 11 → ⊥) → (k ≡ 12 → ⊥) → (k ≡ 13 → ⊥) → (k ≡ 14 → ⊥) → (k ≡ 15 → ⊥)
     → (k ≡ 16 → ⊥) → (k ≡ 17 → ⊥) → (k ≡ 18 → ⊥) → (k ≡ 19 → ⊥) → (k ≡ 20 → ⊥) → 21 ≤ k
 beyond k h a b c d e f g i j l m n =
-    next 20 k (next 19 k (next 18 k (next 17 k (next 16 k (next 15 k (next 14 k (next 13 k (next 12 k (next 11 k (next 10 k (next 9 k h a) b) c) d) e) f) g) i) j) l) m) n
+    next 20 k (next 19 k (next 18 k (next 17 k (next 16 k (next 15 k (next 14 k (next 13 k (next 12 k (next 11 k (next 10 k (next 9 k h a)
+    b) c) d) e) f) g) i) j) l) m) n
 
 -- a number that is none from 9 to 20
 pub outside : (k : ℕ) → (9 ≤ k → k < 21 → ⊥) → (k < 9) ⊎ (21 ≤ k)

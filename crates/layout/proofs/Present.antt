@@ -7,7 +7,7 @@ use Prim.Native.Nat.{ℕ, zero, suc, _+_, _-_, _*_, _/_, _%_, _^_, _<_, _≤_}
 use native.Mathlib.Nat.{one-mul, zero-div, zero-mod, mod-lt, mod-one, add-comm}
 use native.Mathlib.Numerals.{one-add}
 use native.Mathlib.Omega.{arith}
-use lib.Dec.{leb, ltb, eqb, lit<}
+use lib.Dec.{leb, eqb, lit<}
 use lib.ListN.{getD}
 use lib.Pow.{shl-exact, shr-shr, mod-pow-add, pow-pos}
 use lib.Count.{ones, ones-cat}

@@ -19,12 +19,18 @@ pub record Sums (d : Descriptor) (fore : Fore) (textures : Textures) (a : ℕ) :
   pub at13 : a + fore .position + fore .normal + fore .colour0 + fore .colour1 ≡ offsetOf d 13
   pub at14 : a + fore .position + fore .normal + fore .colour0 + fore .colour1 + fore .texture0 ≡ offsetOf d 14
   pub at15 : a + fore .position + fore .normal + fore .colour0 + fore .colour1 + fore .texture0 + textures .texture1 ≡ offsetOf d 15
-  pub at16 : a + fore .position + fore .normal + fore .colour0 + fore .colour1 + fore .texture0 + textures .texture1 + textures .texture2 ≡ offsetOf d 16
-  pub at17 : a + fore .position + fore .normal + fore .colour0 + fore .colour1 + fore .texture0 + textures .texture1 + textures .texture2 + textures .texture3 ≡ offsetOf d 17
-  pub at18 : a + fore .position + fore .normal + fore .colour0 + fore .colour1 + fore .texture0 + textures .texture1 + textures .texture2 + textures .texture3 + textures .texture4 ≡ offsetOf d 18
-  pub at19 : a + fore .position + fore .normal + fore .colour0 + fore .colour1 + fore .texture0 + textures .texture1 + textures .texture2 + textures .texture3 + textures .texture4 + textures .texture5 ≡ offsetOf d 19
-  pub at20 : a + fore .position + fore .normal + fore .colour0 + fore .colour1 + fore .texture0 + textures .texture1 + textures .texture2 + textures .texture3 + textures .texture4 + textures .texture5 + textures .texture6 ≡ offsetOf d 20
-  pub at21 : a + fore .position + fore .normal + fore .colour0 + fore .colour1 + fore .texture0 + textures .texture1 + textures .texture2 + textures .texture3 + textures .texture4 + textures .texture5 + textures .texture6 + textures .texture7 ≡ offsetOf d 21
+  pub at16 : a + fore .position + fore .normal + fore .colour0 + fore .colour1 + fore .texture0 + textures .texture1 + textures .texture2
+      ≡ offsetOf d 16
+  pub at17 : a + fore .position + fore .normal + fore .colour0 + fore .colour1 + fore .texture0 + textures .texture1 + textures .texture2
+      + textures .texture3 ≡ offsetOf d 17
+  pub at18 : a + fore .position + fore .normal + fore .colour0 + fore .colour1 + fore .texture0 + textures .texture1 + textures .texture2
+      + textures .texture3 + textures .texture4 ≡ offsetOf d 18
+  pub at19 : a + fore .position + fore .normal + fore .colour0 + fore .colour1 + fore .texture0 + textures .texture1 + textures .texture2
+      + textures .texture3 + textures .texture4 + textures .texture5 ≡ offsetOf d 19
+  pub at20 : a + fore .position + fore .normal + fore .colour0 + fore .colour1 + fore .texture0 + textures .texture1 + textures .texture2
+      + textures .texture3 + textures .texture4 + textures .texture5 + textures .texture6 ≡ offsetOf d 20
+  pub at21 : a + fore .position + fore .normal + fore .colour0 + fore .colour1 + fore .texture0 + textures .texture1 + textures .texture2
+      + textures .texture3 + textures .texture4 + textures .texture5 + textures .texture6 + textures .texture7 ≡ offsetOf d 21
 
 pub sums : (d : Descriptor) (fore : Fore) (textures : Textures) (a : ℕ) → ForeOf d fore → TexturesOf d textures → a ≡ offsetOf d 9
     → Sums d fore textures a
@@ -58,9 +64,11 @@ sums d fore textures a f t e =
 
 -- the bytes of all attributes
 pub sizes-are : (d : Descriptor) (fore : Fore) (textures : Textures) → ForeOf d fore → TexturesOf d textures
-    → d .vcd0 / 2 ^ 0 % 2 ∷ d .vcd0 / 2 ^ 1 % 2 ∷ d .vcd0 / 2 ^ 2 % 2 ∷ d .vcd0 / 2 ^ 3 % 2 ∷ d .vcd0 / 2 ^ 4 % 2 ∷ d .vcd0 / 2 ^ 5 % 2 ∷ d .vcd0 / 2 ^ 6 % 2 ∷ d .vcd0 / 2 ^ 7 % 2 ∷ d .vcd0 / 2 ^ 8 % 2
+    → d .vcd0 / 2 ^ 0 % 2 ∷ d .vcd0 / 2 ^ 1 % 2 ∷ d .vcd0 / 2 ^ 2 % 2 ∷ d .vcd0 / 2 ^ 3 % 2 ∷ d .vcd0 / 2 ^ 4 % 2 ∷ d .vcd0 / 2 ^ 5 % 2 ∷
+    d .vcd0 / 2 ^ 6 % 2 ∷ d .vcd0 / 2 ^ 7 % 2 ∷ d .vcd0 / 2 ^ 8 % 2
     ∷ fore .position ∷ fore .normal ∷ fore .colour0 ∷ fore .colour1
-    ∷ fore .texture0 ∷ textures .texture1 ∷ textures .texture2 ∷ textures .texture3 ∷ textures .texture4 ∷ textures .texture5 ∷ textures .texture6 ∷ textures .texture7 ∷ []
+    ∷ fore .texture0 ∷ textures .texture1 ∷ textures .texture2 ∷ textures .texture3 ∷ textures .texture4 ∷ textures .texture5 ∷ textures
+    .texture6 ∷ textures .texture7 ∷ []
     ≡ upTo (sizeOf d) 21
 unfolding upTo sizeOf modeOf bitsAt modes
 sizes-are d fore textures f t =

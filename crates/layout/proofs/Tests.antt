@@ -1,25 +1,13 @@
 -- What the definitions say at each branch of the code.
 use mathlib.Core.Path.{_≡_, refl, ap, _∙_}
-use mathlib.Core.Bool.{Bool, false, cond, _||_}
-use mathlib.Core.List.{[], _∷_}
+use mathlib.Core.Bool.{Bool, false, _||_}
 use Prim.Native.Nat.{ℕ, zero, suc, _+_, _*_, _<_, _≤_}
 use native.Mathlib.Omega.{arith}
 use native.Mathlib.Numerals.{add-one}
-use lib.Dec.{leb}
-use lib.ListN.{getD}
 use borrow.Author.Tests.{lt-ltb, le-ltb, eq-eqb, ne-eqb}
 use Rattle.layout.specs.declared.Descriptor.{Descriptor}
 use Rattle.layout.specs.Fields.{modeOf, countOf, formatOf, indicesOf, normalBits}
-use Rattle.layout.specs.Sizes.{isColour, colourWidth, directOf, modeSize, indexWidth, sizeOf, offsetOf, unknownAt, anyUnknown}
-
--- a word past the fifth
-pub sixth : (a b c d e i : ℕ) → 5 ≤ i → 0 ≡ getD (a ∷ b ∷ c ∷ d ∷ e ∷ []) i 0
-sixth a b c d e zero h = absurd (omega arith)
-sixth a b c d e (suc zero) h = absurd (omega arith)
-sixth a b c d e (suc (suc zero)) h = absurd (omega arith)
-sixth a b c d e (suc (suc (suc zero))) h = absurd (omega arith)
-sixth a b c d e (suc (suc (suc (suc zero)))) h = absurd (omega arith)
-sixth a b c d e (suc (suc (suc (suc (suc n))))) h = refl
+use Rattle.layout.specs.Sizes.{colourWidth, directOf, modeSize, indexWidth, sizeOf, offsetOf, unknownAt, anyUnknown}
 
 -- a colour of format 5 or above
 pub colour-wide : (f : ℕ) → 5 ≤ f → 4 ≡ colourWidth f
@@ -70,11 +58,6 @@ sum-next d i t n p q = rw add-one (ap (λ (x : ℕ). x + n) p ∙ ap (λ (x : �
 pub unknown-absent : (d : Descriptor) (k : ℕ) → modeOf d k ≡ 0 → unknownAt d k ≡ false
 unfolding unknownAt
 unknown-absent d k e = rw (eq-eqb (modeOf d k) 0 e)
-
-pub unknown-present : (d : Descriptor) (k : ℕ) (b : Bool) → (modeOf d k ≡ 0 → ⊥) → isColour k ≡ b
-    → unknownAt d k ≡ leb (cond b 6 5) (formatOf d k)
-unfolding unknownAt
-unknown-present d k b z e = rw (ne-eqb (modeOf d k) 0 z, e)
 
 pub any-next : (d : Descriptor) (i : ℕ) (a b : Bool) → a ≡ anyUnknown d i → b ≡ unknownAt d i → a || b ≡ anyUnknown d (i + 1)
 unfolding anyUnknown

@@ -6,8 +6,6 @@ use native.Mathlib.Omega.{arith}
 use lib.Dec.{lit≤, lit<}
 use Rattle.layout.specs.declared.Descriptor.{Descriptor}
 use Rattle.layout.specs.declared.parts.Part.{Part}
-use Rattle.layout.specs.declared.parts.Fore.{Fore}
-use Rattle.layout.specs.declared.parts.Textures.{Textures}
 use Rattle.layout.specs.Fields.{bitsAt, modes, counts, formats, modeOf, countOf, formatOf, indicesOf}
 use Rattle.layout.specs.Sizes.{directOf, sizeOf, unknownAt, anyUnknown}
 use Rattle.layout.specs.Inner.{normalIndices, AbsentFrom, WeighedBy, ForeOf, TexturesOf}
@@ -116,7 +114,8 @@ module _ (d : Descriptor) where
         colour0-is = sym (size-none d 11 m11);
         colour1-is = sym (size-none d 12 m12);
         texture0-is = ht .bytes-are;
-        unknown-is = any-next d 13 _ _ (u10 ∙ sym (any-absent d 10 m10) ∙ sym (any-absent d 11 m11) ∙ sym (any-absent d 12 m12)) (ht .unknown-is);
+        unknown-is = any-next d 13 _ _ (u10 ∙ sym (any-absent d 10 m10) ∙ sym (any-absent d 11 m11) ∙ sym (any-absent d 12 m12)) (ht
+            .unknown-is);
       }
 
   -- the other textures

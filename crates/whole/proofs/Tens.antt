@@ -66,10 +66,12 @@ put-next old words at i {l} h k e =
     let front : List ℕ = take at old ++ take i words in
     let rest : List ℕ = drop (suc (at + i)) old in
     let many : length front ≡ at + i =
-    length-append (take at old) (take i words) ∙ ap₂ (λ (x y : ℕ). x + y) (length-take-le at old (omega arith)) (length-take-le i words (omega arith))
+    length-append (take at old) (take i words) ∙ ap₂ (λ (x y : ℕ). x + y) (length-take-le at old (omega arith)) (length-take-le i words
+    (omega arith))
     in
     let split : l ≡ front ++ (getD old (at + i) 0 ∷ rest) =
-    e ∙ sym (append-assoc (take at old) (take i words) (drop (at + i) old)) ∙ ap (λ (x : List ℕ). front ++ x) (drop-cons old (at + i) 0 k) in
+    e ∙ sym (append-assoc (take at old) (take i words) (drop (at + i) old)) ∙ ap (λ (x : List ℕ). front ++ x) (drop-cons old (at + i) 0 k)
+    in
     let next : at + (i + 1) ≡ suc (at + i) = omega arith in
     let taken : take (i + 1) words ≡ take i words ++ (v ∷ []) = rw (add-one i) (take-suc words i 0 h) in
     rw (next, taken)
@@ -129,7 +131,8 @@ module _ (d : Descriptor) (l : List ℕ) where
       let v′ : values' ≡ tenAt k (padded 10 (attributeList d k l (offsetOf d k))) values = v ∙ ap (λ (x : List ℕ). tenAt k x values) w′ in
       record {
         at-is = q ∙ sum-next d k at n e s;
-        many = ap (λ (x : List ℕ). length x) v′ ∙ length-ten k (padded 10 (attributeList d k l (offsetOf d k))) values h many (length-padded (attributeList d k l (offsetOf d k)));
+        many = ap (λ (x : List ℕ). length x) v′ ∙ length-ten k (padded 10 (attributeList d k l (offsetOf d k))) values h many
+            (length-padded (attributeList d k l (offsetOf d k)));
         told = λ old f. v′ ∙ rw (add-one k) (ten-front d l k old values f);
       }
 
@@ -146,7 +149,8 @@ module _ (d : Descriptor) (l : List ℕ) where
   pub moves-all : (values values' : List ℕ) (r : ℕ) → length values ≡ 210 → Moves d l 0 21 values r values' → values' ≡ wholeTo d l 21
   unfolding wholeTo
   moves-all values values' r h m =
-      m .told values refl ∙ ap (λ (x : List ℕ). wholeTo d l 21 ++ x) (drop-of-length-le values {i = 210} (le-of-eq h)) ∙ append-nil (wholeTo d l 21)
+      m .told values refl ∙ ap (λ (x : List ℕ). wholeTo d l 21 ++ x) (drop-of-length-le values {i = 210} (le-of-eq h)) ∙ append-nil
+      (wholeTo d l 21)
 
 -- ---- ten words of a whole vertex
 

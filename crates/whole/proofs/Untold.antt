@@ -63,7 +63,8 @@ module _ {d : Descriptor} {field : Field} {k at : ℕ} {values : List ℕ} (u : 
         (ap (λ (f : Field). f .indices * (f .mode - 1)) (u .field-is) ∙ sym (size-indexed d k (u .least) z′ o′)) refl v
 
     pub direct-told : (words : List ℕ) (n : ℕ) → field .mode ≡ 1
-        → words ≡ padded 10 (directList l at k (field .count) (field .format) (field .fraction)) → n ≡ directOf k (field .count) (field .format)
+        → words ≡ padded 10 (directList l at k (field .count) (field .format) (field .fraction)) → n ≡ directOf k (field .count) (field
+        .format)
         → values' ≡ tenAt k words values → Moves d l k (k + 1) values (at + n) values'
     direct-told words n m w e v =
         moves-ten d l k values words at n _ (u .most) (u .many) (u .at-is)
@@ -71,7 +72,8 @@ module _ {d : Descriptor} {field : Field} {k at : ℕ} {values : List ℕ} (u : 
         ∙ ap (λ (x : List ℕ). padded 10 x) (sym (attribute-direct d k l at (u .least) (sym mode-is ∙ m)))) (direct-size m n e) refl v
 
 -- a matrix, by its bit
-pub matrix-told : (d : Descriptor) (l : List ℕ) (k : ℕ) (values words : List ℕ) (at bit : ℕ) {values' : List ℕ} → k < 9 → length values ≡ 210
+pub matrix-told : (d : Descriptor) (l : List ℕ) (k : ℕ) (values words : List ℕ) (at bit : ℕ) {values' : List ℕ} → k < 9 → length values ≡
+    210
     → at ≡ offsetOf d k → bit ≡ modeOf d k → words ≡ padded 10 (matrixList bit l at) → values' ≡ tenAt k words values
     → Moves d l k (k + 1) values (at + bit) values'
 unfolding attributeList

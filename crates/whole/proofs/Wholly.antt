@@ -39,7 +39,8 @@ module _ (d : Descriptor) (l values : List ℕ) where
   length-refused e h = refused-by (Refused NotOfLayout) 19 refl (refused-length d 0 l e (lit< tt) h) (λ z. omega arith)
 
   -- or all words
-  pub all-told : refusalOf d ≡ 0 → length l ≡ offsetOf d 21 → {values' : List ℕ} → values' ≡ wholeTo d l 21 → DecodesAll d l values Accepted values'
+  pub all-told : refusalOf d ≡ 0 → length l ≡ offsetOf d 21 → {values' : List ℕ} → values' ≡ wholeTo d l 21 → DecodesAll d l values
+      Accepted values'
   all-told e h v =
       let z : wholeRefusal d l ≡ 0 = accepted-at d 0 l e (lit< tt) h in
       record { answer-is = ap (λ (x : ℕ). x ∷ []) (sym z); values-are = rw (eq-eqb (wholeRefusal d l) 0 z) v }

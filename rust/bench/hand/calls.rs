@@ -1,6 +1,6 @@
 //! The calls. All unsafe code of this package is here.
 
-use model::words::{FormatWords, ReportWords, StateWords, UnitWords, ValueWords};
+use model::words::{FormatWords, ReportWords, StateWords, UnitWords, ValueWords, VertexWords};
 use model::ATTRIBUTES;
 
 mod c {
@@ -193,19 +193,15 @@ pub fn decode(format: &FormatWords, attribute: u32, vertex: &[u8], values: &mut 
 }
 
 /// All attributes of a vertex: 9, 10, 19; the values are told where it is accepted.
-pub fn decode_all(
-    format: &FormatWords,
-    vertex: &[u8],
-    values: &mut [ValueWords; ATTRIBUTES],
-) -> u32 {
+pub fn decode_all(format: &FormatWords, vertex: &[u8], values: &mut VertexWords) -> u32 {
     // SAFETY: three places that don't overlap, each lent for the call with its
-    // own length; the values lie one after the other.
+    // own length.
     unsafe {
         c::hand_decode_all(
             format.as_ptr(),
             place(vertex, &0),
             vertex.len(),
-            values.as_flattened_mut().as_mut_ptr(),
+            values.as_mut_ptr(),
         )
     }
 }

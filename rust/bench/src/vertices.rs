@@ -4,7 +4,7 @@ use crate::formats::{vertex_length, LONGEST, ONE_BYTE, POSITION_S16, TWELVE_BYTE
 use crate::random::Random;
 use crate::timing::{Side, Sides, Stateless};
 use crate::which::Which;
-use model::words::{self, format_of, FormatWords, ValueWords};
+use model::words::{self, format_of, FormatWords, ValueWords, VertexWords, VERTEX_WORDS};
 use model::{decode, layout, ATTRIBUTES};
 use std::hint::black_box;
 
@@ -182,12 +182,18 @@ fn one_by_one(format: &FormatWords, vertex: &[u8], values: &mut Values) -> u32 {
     answers.last().unwrap_or(0)
 }
 
+/// The ten words of each attribute one after the other.
+fn flat(values: &mut Values) -> &mut VertexWords {
+    let words = values.as_flattened_mut();
+    words.try_into().expect("ten words for each attribute")
+}
+
 /// A side that has all attributes told to the same place again and again.
 fn again_whole(
     vertices: &[Vec<u8>],
-    call: impl Fn(&FormatWords, &[u8], &mut Values) -> u32 + 'static,
+    call: impl Fn(&FormatWords, &[u8], &mut VertexWords) -> u32 + 'static,
 ) -> Box<dyn Side> {
-    let mut values = Box::new([[0; 10]; ATTRIBUTES]);
+    let mut values = Box::new([0; VERTEX_WORDS]);
     again(vertices, move |vertex| {
         black_box(call(black_box(&LONGEST), vertex, &mut values));
         black_box(&mut values);
@@ -200,9 +206,9 @@ pub fn whole_vertices(which: &[Which]) -> Result<Sides, String> {
     let told = |which, vertex: &Vec<u8>| {
         let mut values = [[0; 10]; ATTRIBUTES];
         let answer = match which {
-            Which::Proved => proved::decode_all(&LONGEST, vertex, &mut values),
+            Which::Proved => proved::decode_all(&LONGEST, vertex, flat(&mut values)),
             #[cfg(hand_c)]
-            Which::C => hand::decode_all(&LONGEST, vertex, &mut values),
+            Which::C => hand::decode_all(&LONGEST, vertex, flat(&mut values)),
             Which::Rust => one_by_one(&LONGEST, vertex, &mut values),
         };
         (answer, values)

@@ -10,7 +10,7 @@ use compare::duo::Duo;
 use compare::random::Random;
 use compare::scenarios::{self, cuts, formats_between_draws};
 use compare::side::Proved;
-use model::words::{FormatWords, ValueWords};
+use model::words::{FormatWords, ValueWords, VertexWords};
 use model::ATTRIBUTES;
 
 /// Values before a call.
@@ -57,6 +57,12 @@ fn vertex(format: &FormatWords, random: &mut Random) -> Vec<u8> {
     vertex
 }
 
+/// The ten words of each attribute one after the other.
+fn flat(values: &mut [ValueWords; ATTRIBUTES]) -> &mut VertexWords {
+    let words = values.as_flattened_mut();
+    words.try_into().expect("ten words for each attribute")
+}
+
 /// One call for all attributes beside the proved library's, and beside its one for each.
 fn whole_vertices(seed: u64, times: u32) {
     let mut random = Random::new(seed);
@@ -69,14 +75,14 @@ fn whole_vertices(seed: u64, times: u32) {
             answer = proved::decode(&format, attribute as u32, &vertex, values);
         }
         let mut values = [BEFORE; ATTRIBUTES];
-        let told = hand::decode_all(&format, &vertex, &mut values);
+        let told = hand::decode_all(&format, &vertex, flat(&mut values));
         assert_eq!(
             (told, values),
             (answer, expected),
             "{format:X?} {vertex:X?}"
         );
         let mut values = [BEFORE; ATTRIBUTES];
-        let told = proved::decode_all(&format, &vertex, &mut values);
+        let told = proved::decode_all(&format, &vertex, flat(&mut values));
         assert_eq!(
             (told, values),
             (answer, expected),

@@ -2,7 +2,9 @@
 
 use crate::side::Side;
 use crate::world::{Lent, World};
-use model::words::{CommandWords, FormatWords, ReportWords, UnitWords, ValueWords, DONE, WAITING};
+use model::words::{
+    CommandWords, FormatWords, ReportWords, UnitWords, ValueWords, VertexWords, DONE, WAITING,
+};
 use model::ATTRIBUTES;
 
 /// The masks and numbers of a patch, of any lengths.
@@ -42,6 +44,7 @@ pub enum Kind {
     Run,
     LayOut,
     Decode,
+    DecodeAll,
     RawWords,
     WriteCommand,
     CheckPatch,
@@ -49,7 +52,7 @@ pub enum Kind {
     WritePatch,
 }
 
-pub const KINDS: [Kind; 13] = [
+pub const KINDS: [Kind; 14] = [
     Kind::Fresh,
     Kind::ReadRegister,
     Kind::WriteRegister,
@@ -58,6 +61,7 @@ pub const KINDS: [Kind; 13] = [
     Kind::Run,
     Kind::LayOut,
     Kind::Decode,
+    Kind::DecodeAll,
     Kind::RawWords,
     Kind::WriteCommand,
     Kind::CheckPatch,
@@ -76,6 +80,7 @@ impl Kind {
             Kind::Run => "run",
             Kind::LayOut => "lay_out",
             Kind::Decode => "decode",
+            Kind::DecodeAll => "decode_all",
             Kind::RawWords => "raw_words",
             Kind::WriteCommand => "write_command",
             Kind::CheckPatch => "check_patch",
@@ -93,7 +98,7 @@ impl Kind {
             Kind::Feed => &[DONE, 1, 11],
             Kind::Step | Kind::Run => &[DONE, 1, 2, 3, 4, 5, 6, 7, 8, 9, 10, WAITING],
             Kind::LayOut => &[DONE, 9, 10],
-            Kind::Decode | Kind::RawWords => &[DONE, 9, 10, 19],
+            Kind::Decode | Kind::DecodeAll | Kind::RawWords => &[DONE, 9, 10, 19],
             Kind::WriteCommand => &[DONE, 7, 8, 16, 18],
             Kind::CheckPatch | Kind::MergePatches => &[DONE, 12, 13, 14, 15],
             Kind::WritePatch => &[DONE, 12, 13, 14, 15, 16],
@@ -136,6 +141,11 @@ pub enum Call {
         vertex: Vec<u8>,
         values: ValueWords,
     },
+    DecodeAll {
+        format: FormatWords,
+        vertex: Vec<u8>,
+        values: Box<VertexWords>,
+    },
     RawWords {
         format: FormatWords,
         attribute: u32,
@@ -174,6 +184,7 @@ impl Call {
             Call::Run { .. } => Kind::Run,
             Call::LayOut { .. } => Kind::LayOut,
             Call::Decode { .. } => Kind::Decode,
+            Call::DecodeAll { .. } => Kind::DecodeAll,
             Call::RawWords { .. } => Kind::RawWords,
             Call::WriteCommand { .. } => Kind::WriteCommand,
             Call::CheckPatch { .. } => Kind::CheckPatch,
@@ -197,6 +208,11 @@ impl Call {
                 vertex,
                 values,
             } => side.decode(format, *attribute, vertex, values),
+            Call::DecodeAll {
+                format,
+                vertex,
+                values,
+            } => side.decode_all(format, vertex, values),
             Call::RawWords {
                 format,
                 attribute,

@@ -95,6 +95,15 @@ fn stateless_parts(call: &Call) -> Vec<Part> {
             ("vertex", widen(vertex)),
             ("values", values.to_vec()),
         ],
+        Call::DecodeAll {
+            format,
+            vertex,
+            values,
+        } => vec![
+            ("format", format.to_vec()),
+            ("vertex", widen(vertex)),
+            ("values", values.to_vec()),
+        ],
         _ => written_parts(call),
     }
 }
@@ -368,6 +377,9 @@ fn take_values(call: &mut Call, after: &Call) {
         ) => (*sizes, *offsets, *length) = (*s, *o, *l),
         (Call::Decode { values, .. }, Call::Decode { values: told, .. })
         | (Call::RawWords { values, .. }, Call::RawWords { values: told, .. }) => *values = *told,
+        (Call::DecodeAll { values, .. }, Call::DecodeAll { values: told, .. }) => {
+            values.clone_from(told);
+        }
         (Call::MergePatches { result, .. }, Call::MergePatches { result: told, .. }) => {
             result.clone_from(told);
         }

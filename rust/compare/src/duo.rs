@@ -7,7 +7,9 @@ use crate::random::Random;
 use crate::side::Side;
 use crate::tally::Tally;
 use crate::world::{Lent, World, USUAL};
-use model::words::{CommandWords, FormatWords, ReportWords, UnitWords, ValueWords, DONE};
+use model::words::{
+    CommandWords, FormatWords, ReportWords, UnitWords, ValueWords, VertexWords, DONE,
+};
 use model::ATTRIBUTES;
 
 /// The seed of what lent memory and outputs hold before.
@@ -227,6 +229,19 @@ impl Duo {
         };
         match self.call(call) {
             (answer, Call::Decode { values, .. }) => (answer, values),
+            (answer, _) => (answer, values),
+        }
+    }
+
+    pub fn decode_all(&mut self, format: &FormatWords, vertex: &[u8]) -> (u32, Box<VertexWords>) {
+        let values = Box::new(self.garbage.array());
+        let call = Call::DecodeAll {
+            format: *format,
+            vertex: vertex.to_vec(),
+            values: values.clone(),
+        };
+        match self.call(call) {
+            (answer, Call::DecodeAll { values, .. }) => (answer, values),
             (answer, _) => (answer, values),
         }
     }

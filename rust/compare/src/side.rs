@@ -1,7 +1,7 @@
-//! What is compared: thirteen functions over words and slices.
+//! What is compared: fourteen functions over words and slices.
 
 use model::words::{
-    self, CommandWords, FormatWords, ReportWords, StateWords, UnitWords, ValueWords,
+    self, CommandWords, FormatWords, ReportWords, StateWords, UnitWords, ValueWords, VertexWords,
 };
 use model::ATTRIBUTES;
 
@@ -45,6 +45,7 @@ pub trait Side {
         vertex: &[u8],
         values: &mut ValueWords,
     ) -> u32;
+    fn decode_all(&self, format: &FormatWords, vertex: &[u8], values: &mut VertexWords) -> u32;
     fn raw_words(
         &self,
         format: &FormatWords,
@@ -150,6 +151,15 @@ macro_rules! side_of {
                 values: &mut ValueWords,
             ) -> u32 {
                 $functions::decode(format, attribute, vertex, values)
+            }
+
+            fn decode_all(
+                &self,
+                format: &FormatWords,
+                vertex: &[u8],
+                values: &mut VertexWords,
+            ) -> u32 {
+                $functions::decode_all(format, vertex, values)
             }
 
             fn raw_words(

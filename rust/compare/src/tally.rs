@@ -2,7 +2,7 @@
 
 use crate::call::{Call, Kind, KINDS};
 use crate::course::{Mark, Run, CASES, LIES, MOST_ZEROS, WORDS};
-use model::words::{FormatWords, DONE, WAITING};
+use model::words::{FormatWords, DONE, VALUE_WORDS, WAITING};
 use std::collections::BTreeMap;
 
 /// What a unit can be.
@@ -26,7 +26,7 @@ const FORMATS: [&str; 5] = ["u8", "s8", "u16", "s16", "f32"];
 /// Count bit and bit 30 of a normal's VAT.
 const COUNTS_AND_BITS: [(u32, u32); 4] = [(0, 0), (0, 1), (1, 0), (1, 1)];
 /// The calls that take a normal apart.
-const TAKE_NORMALS: [Kind; 2] = [Kind::Decode, Kind::RawWords];
+const TAKE_NORMALS: [Kind; 3] = [Kind::Decode, Kind::DecodeAll, Kind::RawWords];
 
 type Counts<K> = BTreeMap<K, u64>;
 
@@ -45,6 +45,8 @@ pub struct Tally {
     old_metrics: Counts<Kind>,
     /// By the kind of the attribute that was decoded.
     values: Counts<u32>,
+    /// By the kind of an attribute of a vertex that was decoded whole.
+    whole: Counts<u32>,
     /// By the number of raw words told.
     raw_words: Counts<u32>,
     normals: Counts<Normal>,
@@ -74,6 +76,11 @@ impl Tally {
         match call {
             Call::Step { .. } | Call::Run { .. } => self.count_units(call, answer, next),
             Call::Decode { values, .. } if answer == DONE => add(&mut self.values, values[0]),
+            Call::DecodeAll { values, .. } if answer == DONE => {
+                for value in values.chunks_exact(VALUE_WORDS) {
+                    add(&mut self.whole, value[0]);
+                }
+            }
             Call::RawWords { values, .. } if answer == DONE => add(&mut self.raw_words, values[0]),
             Call::WriteCommand { command, .. } => match (command[0], answer) {
                 (kind, DONE) => add(&mut self.written, kind),
@@ -112,16 +119,17 @@ impl Tally {
     }
 
     fn count_normal(&mut self, call: &Call) {
-        let (Call::Decode {
-            format, attribute, ..
-        }
-        | Call::RawWords {
-            format, attribute, ..
-        }) = call
-        else {
-            return;
+        let (format, attribute) = match call {
+            Call::Decode {
+                format, attribute, ..
+            }
+            | Call::RawWords {
+                format, attribute, ..
+            } => (format, *attribute),
+            Call::DecodeAll { format, .. } => (format, NORMAL),
+            _ => return,
         };
-        if *attribute == NORMAL && normal_is_direct(format) {
+        if attribute == NORMAL && normal_is_direct(format) {
             let bits = |from: u32, mask: u32| format[2] >> from & mask;
             let normal = (call.kind(), bits(10, 7), (bits(9, 1), bits(30, 1)));
             add(&mut self.normals, normal);
@@ -170,6 +178,9 @@ impl Tally {
             if !self.values.contains_key(&value) {
                 unreached.push(format!("an attribute of kind {value}"));
             }
+            if !self.whole.contains_key(&value) {
+                unreached.push(format!("an attribute of kind {value} of a whole vertex"));
+            }
         }
         unreached.extend(self.unreached_normals());
         unreached
@@ -212,6 +223,7 @@ impl Tally {
             .concat();
         println!("{OLD_METRICS:02X} refused, by call:{old}");
         println!("attributes decoded, by kind:{}", list(&self.values));
+        println!("those of whole vertices:{}", list(&self.whole));
         println!("raw words, by how many:{}", list(&self.raw_words));
         println!("direct normals (of 3 with bit 30 clear, set; of 9 with it clear, set):");
         for kind in TAKE_NORMALS {

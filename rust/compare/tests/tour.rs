@@ -101,8 +101,11 @@ impl Tour {
     #[track_caller]
     fn decodes(&mut self, format: &FormatWords, attribute: u32, vertex: &[u8], values: &[u32]) {
         let (answer, told) = self.0.decode(format, attribute, vertex);
+        let (whole, all) = self.0.decode_all(format, vertex);
         self.same();
         assert_eq!((answer, &told[..]), (DONE, &ten(values)[..]));
+        let from = 10 * attribute as usize;
+        assert_eq!((whole, &all[from..from + 10]), (DONE, &told[..]));
     }
 
     #[track_caller]
@@ -112,13 +115,18 @@ impl Tour {
         assert_eq!((answer, &told[..]), (DONE, &ten(values)[..]));
     }
 
-    /// Both of them give the refusal.
+    /// All of them give the refusal.
     #[track_caller]
     fn not_decoded(&mut self, format: &FormatWords, attribute: u32, vertex: &[u8], refusal: u32) {
         let (decoded, _) = self.0.decode(format, attribute, vertex);
         let (raw, _) = self.0.raw_words(format, attribute, vertex);
+        let (whole, _) = self.0.decode_all(format, vertex);
         self.same();
         assert_eq!((decoded, raw), (refusal, refusal));
+        // A whole vertex has no attribute number that could be wrong.
+        if attribute < 21 || refusal != 19 {
+            assert_eq!(whole, refusal);
+        }
     }
 
     #[track_caller]

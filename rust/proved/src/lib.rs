@@ -16,6 +16,8 @@ pub type UnitWords = [u32; 6];
 pub type ReportWords = [u32; 2];
 /// A kind or a count, and nine values.
 pub type ValueWords = [u32; 10];
+/// So many for each attribute in order.
+pub type VertexWords = [u32; 210];
 
 mod c {
     unsafe extern "C" {
@@ -250,20 +252,15 @@ pub fn decode(format: &FormatWords, attribute: u32, vertex: &[u8], values: &mut 
     }
 }
 
-/// All attributes of a vertex, in their order.
-pub fn decode_all(
-    format: &FormatWords,
-    vertex: &[u8],
-    values: &mut [ValueWords; ATTRIBUTES],
-) -> u32 {
+pub fn decode_all(format: &FormatWords, vertex: &[u8], values: &mut VertexWords) -> u32 {
     // SAFETY: three places that don't overlap, each lent for the call with its
-    // own length; the values lie one after the other.
+    // own length.
     unsafe {
         c::duckhammock_decode_all(
             format.as_ptr(),
             place(vertex, &0),
             vertex.len(),
-            values.as_flattened_mut().as_mut_ptr(),
+            values.as_mut_ptr(),
         )
     }
 }

@@ -18,7 +18,8 @@ refuse-requires c κs = search needs
 
 returns : tie.Need-returns
 unfolding modeOf bitsAt modes
-returns c = laid-emptied (c .before .before .before .before .args .d) PositionAbsent _ (refused-absent (c .before .before .before .before .args .d) (c .before .if1 .taken)) (c .refuse .ensures)
+returns c = laid-emptied (c .before .before .before .before .args .d) PositionAbsent _ (refused-absent (c .before .before .before .before
+    .args .d) (c .before .if1 .taken)) (c .refuse .ensures)
 
 refuse-requires-2 : tie.Need-refuse-requires-2
 refuse-requires-2 c κs = search needs
@@ -27,7 +28,8 @@ returns-2 : tie.Need-returns-2
 unfolding modeOf bitsAt modes
 returns-2 c =
     let d = c .before .before .before .before .before .args .d in
-    laid-emptied d UnknownFormat _ (refused-unknown d (c .before .before .if1 .left) (sym (c .before .before .before .weigh-textures .ensures .unknown-is) ∙ c .before .if2 .taken))
+    laid-emptied d UnknownFormat _ (refused-unknown d (c .before .before .if1 .left) (sym (c .before .before .before .weigh-textures
+    .ensures .unknown-is) ∙ c .before .if2 .taken))
     (c .refuse2 .ensures)
 
 sizes-requires : tie.Need-sizes-requires
@@ -40,7 +42,8 @@ returns-3 : tie.Need-returns-3
 unfolding modeOf bitsAt modes
 returns-3 c =
     let d = c .before .before .before .before .before .before .args .d in
-    laid-filled d _ (accepted d (c .before .before .before .if1 .left) (sym (c .before .before .before .before .weigh-textures .ensures .unknown-is) ∙ c .before .before .if2 .left))
+    laid-filled d _ (accepted d (c .before .before .before .if1 .left) (sym (c .before .before .before .before .weigh-textures .ensures
+    .unknown-is) ∙ c .before .before .if2 .left))
     (c .fill .ensures)
 
 pub lay-out-spec : {M : Type 1} → statement M

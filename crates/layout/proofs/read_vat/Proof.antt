@@ -99,7 +99,9 @@ returns-13 : tie.Need-returns-13
 returns-13 c =
     let a = c .before .before .args in
     let r = c .before .match .rest in
-    let past : 9 ≤ a .k → 21 ≤ a .k = λ h. beyond (a .k) h (r .0 .0 .0 .0 .0 .0 .0 .0 .0 .0 .0 .1) (r .0 .0 .0 .0 .0 .0 .0 .0 .0 .0 .1) (r .0 .0 .0 .0 .0 .0 .0 .0 .0 .1) (r .0 .0 .0 .0 .0 .0 .0 .0 .1) (r .0 .0 .0 .0 .0 .0 .0 .1) (r .0 .0 .0 .0 .0 .0 .1) (r .0 .0 .0 .0 .0 .1) (r .0 .0 .0 .0 .1) (r .0 .0 .0 .1) (r .0 .0 .1) (r .0 .1) (r .1) in
+    let past : 9 ≤ a .k → 21 ≤ a .k = λ h. beyond (a .k) h (r .0 .0 .0 .0 .0 .0 .0 .0 .0 .0 .0 .1) (r .0 .0 .0 .0 .0 .0 .0 .0 .0 .0 .1) (r
+    .0 .0 .0 .0 .0 .0 .0 .0 .0 .1) (r .0 .0 .0 .0 .0 .0 .0 .0 .1) (r .0 .0 .0 .0 .0 .0 .0 .1) (r .0 .0 .0 .0 .0 .0 .1) (r .0 .0 .0 .0 .0
+    .1) (r .0 .0 .0 .0 .1) (r .0 .0 .0 .1) (r .0 .0 .1) (r .0 .1) (r .1) in
     c .vat-at13 .ensures ∙ sym (none-vat (a .d) (a .k) (outside (a .k) (λ g l. omega (arith, past g))))
 
 pub read-vat-spec : {M : Type 1} → statement M

@@ -56,7 +56,8 @@ returns-3 c = rw (c .before .match .keys3) (c .half-at .ensures)
 returns-4 : tie.Need-returns-4
 returns-4 c =
     let two = c .before .before in
-    rw (two .before .match .keys4) (rw (two .half-at2 .ensures ∙ two-bytes _ _, c .wide2 .ensures .0 ∙ c .before .byte2 .ensures) (sym (three-bytes _ _)))
+    rw (two .before .match .keys4) (rw (two .half-at2 .ensures ∙ two-bytes _ _, c .wide2 .ensures .0 ∙ c .before .byte2 .ensures) (sym
+    (three-bytes _ _)))
 
 returns-5 : tie.Need-returns-5
 returns-5 c =

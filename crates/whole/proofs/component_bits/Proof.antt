@@ -87,21 +87,24 @@ returns-2 : tie.Need-returns-2
 unfolding componentAt rawAt
 returns-2 c =
     let s = c .before .before .before in
-    rw (c .before .before .match .keys2) (c .single2 .ensures ∙ ap (λ (x : ℕ). toBits binary32 (componentOf 1 x (s .before .args .fraction)))
+    rw (c .before .before .match .keys2) (c .single2 .ensures ∙ ap (λ (x : ℕ). toBits binary32 (componentOf 1 x (s .before .args
+    .fraction)))
     (c .before .read2 .ensures))
 
 returns-3 : tie.Need-returns-3
 unfolding componentAt rawAt
 returns-3 c =
     let s = c .before .before .before in
-    rw (c .before .before .match .keys3) (c .single3 .ensures ∙ ap (λ (x : ℕ). toBits binary32 (componentOf 2 x (s .before .args .fraction)))
+    rw (c .before .before .match .keys3) (c .single3 .ensures ∙ ap (λ (x : ℕ). toBits binary32 (componentOf 2 x (s .before .args
+    .fraction)))
     (c .before .half-at .ensures))
 
 returns-4 : tie.Need-returns-4
 unfolding componentAt rawAt
 returns-4 c =
     let s = c .before .before .before in
-    rw (c .before .before .match .keys4) (c .single4 .ensures ∙ ap (λ (x : ℕ). toBits binary32 (componentOf 3 x (s .before .args .fraction)))
+    rw (c .before .before .match .keys4) (c .single4 .ensures ∙ ap (λ (x : ℕ). toBits binary32 (componentOf 3 x (s .before .args
+    .fraction)))
     (c .before .half-at2 .ensures))
 
 returns-5 : tie.Need-returns-5

@@ -18,7 +18,8 @@ accepted c =
     layout-accepted (m .before .before .args .descriptor) (c .enum-told .given .1) (m .measure .ensures .answer-is)
 
 -- and its length is the sum of all
-length-is : (c : tie.After-enum-told) → c .before .before .measure .result .length ≡ offsetOf (c .before .before .before .before .args .descriptor) 21
+length-is : (c : tie.After-enum-told) → c .before .before .measure .result .length ≡ offsetOf (c .before .before .before .before .args
+    .descriptor) 21
 length-is c =
     let m = c .before .before in
     m .measure .ensures .length-is ∙ length-accepted (m .before .before .args .descriptor) (accepted c)
@@ -65,7 +66,8 @@ returns-3 c =
     let many : length (a .values .now) ≡ 210 = search needs in
     all-told d l (a .values .now) (accepted t) (c .before .before .before .before .before .before .if1 .left ∙ length-is t)
     (moves-all d l (a .values .now) _ (c .tell-textures .result) many
-    (moves-then d l (moves-then d l (c .before .before .before .before .tell-matrices .ensures) (c .before .before .tell-fore .ensures)) (c .tell-textures .ensures)))
+    (moves-then d l (moves-then d l (c .before .before .before .before .tell-matrices .ensures) (c .before .before .tell-fore .ensures))
+    (c .tell-textures .ensures)))
 
 pub decode-all-spec : {M : Type 1} → statement M
 decode-all-spec =

@@ -26,7 +26,8 @@ returns c =
     let a = w .before .before .before .before .args in
     ap (λ (x : List ℕ). padded 10 x) (direct-colour (a .vertex .now) (a .at) (a .k) (a .count) (a .format) (a .fraction) (c .read .result)
     (sym (w .before .before .is-colour .ensures) ∙ w .before .if1 .taken)
-    (c .read .ensures ∙ ap (λ (x : ℕ). bigEndian (a .vertex .now) (a .at) (atMostFour x)) (w .colour-width .ensures)) (colour-le (a .format)))
+    (c .read .ensures ∙ ap (λ (x : ℕ). bigEndian (a .vertex .now) (a .at) (atMostFour x)) (w .colour-width .ensures)) (colour-le (a
+    .format)))
 
 position-words-requires : tie.Need-position-words-requires
 position-words-requires c κs = search needs
@@ -37,7 +38,8 @@ returns-2 c =
     let a = o .before .before .before .args in
     c .position-words .ensures ∙ ap (λ (k : ℕ). padded 10 (componentList (a .vertex .now) (a .at) k (a .count) (a .format) (a .fraction)))
     (sym (c .before .if2 .taken))
-    ∙ ap (λ (x : List ℕ). padded 10 x) (direct-other (a .vertex .now) (a .at) (a .k) (a .count) (a .format) (a .fraction) (sym (o .before .is-colour .ensures) ∙ o .if1 .left))
+    ∙ ap (λ (x : List ℕ). padded 10 x) (direct-other (a .vertex .now) (a .at) (a .k) (a .count) (a .format) (a .fraction) (sym (o .before
+    .is-colour .ensures) ∙ o .if1 .left))
 
 normal-words-requires : tie.Need-normal-words-requires
 normal-words-requires c κs = search needs
@@ -48,7 +50,8 @@ returns-3 c =
     let a = o .before .before .before .args in
     c .normal-words .ensures ∙ ap (λ (k : ℕ). padded 10 (componentList (a .vertex .now) (a .at) k (a .count) (a .format) (a .fraction)))
     (sym (c .before .if3 .taken))
-    ∙ ap (λ (x : List ℕ). padded 10 x) (direct-other (a .vertex .now) (a .at) (a .k) (a .count) (a .format) (a .fraction) (sym (o .before .is-colour .ensures) ∙ o .if1 .left))
+    ∙ ap (λ (x : List ℕ). padded 10 x) (direct-other (a .vertex .now) (a .at) (a .k) (a .count) (a .format) (a .fraction) (sym (o .before
+    .is-colour .ensures) ∙ o .if1 .left))
 
 texture-words-requires : tie.Need-texture-words-requires
 texture-words-requires c κs = search needs
@@ -58,8 +61,10 @@ returns-4 c =
     let o = c .before .before .before in
     let a = o .before .before .before .args in
     c .texture-words .ensures
-    ∙ ap (λ (x : List ℕ). padded 10 x) (texture-alike (a .vertex .now) (a .at) (a .k) (a .count) (a .format) (a .fraction) (c .before .before .if2 .left) (c .before .if3 .left))
-    ∙ ap (λ (x : List ℕ). padded 10 x) (direct-other (a .vertex .now) (a .at) (a .k) (a .count) (a .format) (a .fraction) (sym (o .before .is-colour .ensures) ∙ o .if1 .left))
+    ∙ ap (λ (x : List ℕ). padded 10 x) (texture-alike (a .vertex .now) (a .at) (a .k) (a .count) (a .format) (a .fraction) (c .before
+    .before .if2 .left) (c .before .if3 .left))
+    ∙ ap (λ (x : List ℕ). padded 10 x) (direct-other (a .vertex .now) (a .at) (a .k) (a .count) (a .format) (a .fraction) (sym (o .before
+    .is-colour .ensures) ∙ o .if1 .left))
 
 pub direct-words-spec : {M : Type 1} → statement M
 direct-words-spec =

@@ -15,7 +15,8 @@ returns : tie.Need-returns
 returns c =
     let s = c .before .before .before in
     let a = s .args in
-    ap (λ (x : List ℕ). padded 10 x) (index-told (a .vertex .now) (a .at) (a .times) (a .n) (s .pre .1) (c .before .read .result) (c .if1 .taken) (c .before .read .ensures))
+    ap (λ (x : List ℕ). padded 10 x) (index-told (a .vertex .now) (a .at) (a .times) (a .n) (s .pre .1) (c .before .read .result) (c .if1
+    .taken) (c .before .read .ensures))
 
 add-read : tie.Need-add-read
 add-read c = search needs
@@ -37,7 +38,8 @@ returns-2 c =
     let x = c .before .before .before in
     let s = x .before .before in
     let a = s .args in
-    ap (λ (x : List ℕ). padded 10 x) (indices-told (a .vertex .now) (a .at) (a .times) (a .n) (s .pre .1) (x .read .result) (c .before .read2 .result) (c .read3 .result)
+    ap (λ (x : List ℕ). padded 10 x) (indices-told (a .vertex .now) (a .at) (a .times) (a .n) (s .pre .1) (x .read .result) (c .before
+    .read2 .result) (c .read3 .result)
     (c .before .before .if1 .left) (x .read .ensures) (c .before .read2 .ensures) (c .read3 .ensures))
 
 pub index-words-spec : {M : Type 1} → statement M

@@ -1,7 +1,7 @@
 -- After i turns the first i words stand at the attribute's place, and all else is what it was.
-use mathlib.Core.Path.{_≡_, refl, sym, ap, _∙_}
+use mathlib.Core.Path.{_≡_, refl, ap, _∙_}
 use mathlib.Core.List.{List, _++_}
-use Prim.Native.Nat.{ℕ, _+_, _-_, _*_, _<_, _≤_}
+use Prim.Native.Nat.{ℕ, _+_, _-_, _*_, _≤_}
 use native.Mathlib.Nat.{le-of-eq}
 use native.Mathlib.Omega.{arith}
 use lib.ListN.{length, take, drop, length-set}
@@ -74,7 +74,8 @@ returns c =
     let ten : length (a .t3) ≡ 10 = search needs in
     let e : lp .i ≡ 10 = omega arith in
     lp .inv .done ∙ ap (λ (n : ℕ). take (10 * a .k) (a .values .now) ++ (take n (a .t3) ++ drop (10 * a .k + n) (a .values .now))) e
-    ∙ ap (λ (x : List ℕ). take (10 * a .k) (a .values .now) ++ (x ++ drop (10 * a .k + 10) (a .values .now))) (take-all 10 (a .t3) (le-of-eq ten))
+    ∙ ap (λ (x : List ℕ). take (10 * a .k) (a .values .now) ++ (x ++ drop (10 * a .k + 10) (a .values .now))) (take-all 10 (a .t3)
+    (le-of-eq ten))
 
 pub put-spec : {M : Type 1} → statement M
 put-spec =

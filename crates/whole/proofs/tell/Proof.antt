@@ -44,7 +44,8 @@ same-length-2 c = search needs
 returns-2 : tie.Need-returns-2
 returns-2 c =
     let s = c .before .before .before .before .before .before .before .before .before in
-    indexed-told (s .pre) (s .args .vertex .now) (c .before .before .before .index-words .result) (c .before .before .before .before .before .before .if1 .left) (c .before .before .before .before .before .if2 .taken) (c .before .before .before .index-words .ensures)
+    indexed-told (s .pre) (s .args .vertex .now) (c .before .before .before .index-words .result) (c .before .before .before .before
+    .before .before .if1 .left) (c .before .before .before .before .before .if2 .taken) (c .before .before .before .index-words .ensures)
     (c .before .before .put2 .ensures)
 
 direct-words-requires : tie.Need-direct-words-requires
@@ -59,7 +60,12 @@ direct-bytes-requires c κs = search needs
 add-result-2 : tie.Need-add-result-2
 add-result-2 c =
     let u = c .before .before .before .before .before .before .before .before .before .before .pre in
-    omega (arith, at-le u, direct-small u (c .before .before .before .before .before .before .if2 .left) (c .direct-bytes .result) (c .direct-bytes .ensures))
+    omega (
+      arith,
+      at-le u,
+      direct-small u (c .before .before .before .before .before .before .if2 .left) (c .direct-bytes .result) (c
+          .direct-bytes .ensures),
+    )
 
 same-length-3 : tie.Need-same-length-3
 same-length-3 c = search needs
@@ -68,7 +74,8 @@ returns-3 : tie.Need-returns-3
 returns-3 c =
     let s = c .before .before .before .before .before .before .before .before .before .before in
     let w = c .before .before .before .before .direct-words in
-    direct-told (s .pre) (s .args .vertex .now) (w .result) (c .direct-bytes .result) (c .before .before .before .before .before .before .if2 .left) (w .ensures) (c .direct-bytes .ensures)
+    direct-told (s .pre) (s .args .vertex .now) (w .result) (c .direct-bytes .result) (c .before .before .before .before .before .before
+    .if2 .left) (w .ensures) (c .direct-bytes .ensures)
     (c .before .before .before .put3 .ensures)
 
 pub tell-spec : {M : Type 1} → statement M

@@ -36,7 +36,9 @@ tell-requires-5 : tie.Need-tell-requires-5
 tell-requires-5 c κs = search needs
 
 same-length : tie.Need-same-length
-same-length c = c .before .before .tell5 .ensures .many ∙ sym (c .before .before .before .before .before .before .before .before .before .before .before .before .before .before .before .before .before .before .before .before .before .before .before .before .before .before .before .pre .1)
+same-length c = c .before .before .tell5 .ensures .many ∙ sym (c .before .before .before .before .before .before .before .before .before
+    .before .before .before .before .before .before .before .before .before .before .before .before .before .before .before .before
+    .before .before .pre .1)
 
 returns : tie.Need-returns
 returns c =
@@ -48,7 +50,8 @@ returns c =
     let s = t1 .before .before .before .before .before in
     let d = s .args .d in
     let l = s .args .vertex .now in
-    moves-then d l (moves-then d l (moves-then d l (moves-then d l (t1 .tell .ensures) (t2 .tell2 .ensures)) (t3 .tell3 .ensures)) (t4 .tell4 .ensures)) (t5 .tell5 .ensures)
+    moves-then d l (moves-then d l (moves-then d l (moves-then d l (t1 .tell .ensures) (t2 .tell2 .ensures)) (t3 .tell3 .ensures)) (t4
+    .tell4 .ensures)) (t5 .tell5 .ensures)
 
 pub tell-fore-spec : {M : Type 1} → statement M
 tell-fore-spec =

@@ -34,7 +34,13 @@ abbrev μ-loop : tie.MeasureT-loop
 loop-holds : tie.Need-loop-holds Inv-loop μ-loop
 loop-holds c =
     let s = c .before .before in
-    record { below = omega arith; least = omega arith; many = s .pre; moved = λ d e. moves-none d (s .args .vertex .now) (s .args .values .now) (s .pre) }
+    record {
+      below = omega arith;
+      least = omega arith;
+      many = s .pre;
+      moved = λ d e. moves-none d (s .args .vertex .now) (s .args .values
+          .now) (s .pre);
+    }
 
 cast-bit : tie.Need-cast-bit Inv-loop μ-loop
 cast-bit c = search needs
@@ -66,9 +72,12 @@ loop-again c =
     let l = s .args .vertex .now in
     let vcd = s .args .d .vcd0 in
     let h : lp .k < 9 = c .before .before .before .before .before .loop-test .taken in
-    let one : (d : Descriptor) → d .vcd0 ≡ vcd → Moves d l (lp .k) (lp .k + 1) (lp .values) (lp .at + vcd / 2 ^ lp .k % 2) (c .before .before .put .last .0) =
-    λ d e. matrix-told d l (lp .k) (lp .values) (c .before .before .before .matrix-words .result) (lp .at) (vcd / 2 ^ lp .k % 2) h (lp .inv .many)
-    (lp .inv .moved d e .at-is) (bit-is d vcd (lp .k) e h) (c .before .before .before .matrix-words .ensures) (c .before .before .put .ensures) in
+    let one : (d : Descriptor) → d .vcd0 ≡ vcd → Moves d l (lp .k) (lp .k + 1) (lp .values) (lp .at + vcd / 2 ^ lp .k % 2) (c .before
+    .before .put .last .0) =
+    λ d e. matrix-told d l (lp .k) (lp .values) (c .before .before .before .matrix-words .result) (lp .at) (vcd / 2 ^ lp .k % 2) h (lp
+    .inv .many)
+    (lp .inv .moved d e .at-is) (bit-is d vcd (lp .k) e h) (c .before .before .before .matrix-words .ensures) (c .before .before .put
+    .ensures) in
     record {
       below = omega arith;
       least = omega (arith, lp .inv .least);
@@ -84,7 +93,8 @@ returns c =
     let lp = c .before .loop in
     let s = c .before .before .before .before in
     let e : lp .k ≡ 9 = omega arith in
-    subst (λ (n : ℕ). Moves (s .args .d) (s .args .vertex .now) 0 n (s .args .values .now) (lp .at) (lp .values)) e (lp .inv .moved (s .args .d) refl)
+    subst (λ (n : ℕ). Moves (s .args .d) (s .args .vertex .now) 0 n (s .args .values .now) (lp .at) (lp .values)) e (lp .inv .moved (s
+    .args .d) refl)
 
 pub tell-matrices-spec : {M : Type 1} → statement M
 tell-matrices-spec =

@@ -48,7 +48,9 @@ tell-requires-7 : tie.Need-tell-requires-7
 tell-requires-7 c κs = search needs
 
 same-length : tie.Need-same-length
-same-length c = c .before .before .tell7 .ensures .many ∙ sym (c .before .before .before .before .before .before .before .before .before .before .before .before .before .before .before .before .before .before .before .before .before .before .before .before .before .before .before .before .before .before .before .before .before .before .before .before .before .pre .1)
+same-length c = c .before .before .tell7 .ensures .many ∙ sym (c .before .before .before .before .before .before .before .before .before
+    .before .before .before .before .before .before .before .before .before .before .before .before .before .before .before .before
+    .before .before .before .before .before .before .before .before .before .before .before .before .pre .1)
 
 returns : tie.Need-returns
 returns c =
@@ -62,7 +64,8 @@ returns c =
     let s = t1 .before .before .before .before .before in
     let d = s .args .d in
     let l = s .args .vertex .now in
-    moves-then d l (moves-then d l (moves-then d l (moves-then d l (moves-then d l (moves-then d l (t1 .tell .ensures) (t2 .tell2 .ensures)) (t3 .tell3 .ensures)) (t4 .tell4 .ensures)) (t5 .tell5 .ensures)) (t6 .tell6 .ensures)) (t7 .tell7 .ensures)
+    moves-then d l (moves-then d l (moves-then d l (moves-then d l (moves-then d l (moves-then d l (t1 .tell .ensures) (t2 .tell2
+    .ensures)) (t3 .tell3 .ensures)) (t4 .tell4 .ensures)) (t5 .tell5 .ensures)) (t6 .tell6 .ensures)) (t7 .tell7 .ensures)
 
 pub tell-textures-spec : {M : Type 1} → statement M
 tell-textures-spec =

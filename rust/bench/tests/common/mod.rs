@@ -3,7 +3,9 @@
 pub mod format;
 
 use compare::side::{Proved, Side};
-use model::words::{CommandWords, FormatWords, ReportWords, StateWords, UnitWords, ValueWords};
+use model::words::{
+    CommandWords, FormatWords, ReportWords, StateWords, UnitWords, ValueWords, VertexWords,
+};
 use model::ATTRIBUTES;
 
 /// The hand-tuned C. It has not the calls that the benchmark does not time, raw words,
@@ -73,6 +75,10 @@ impl Side for Hand {
         values: &mut ValueWords,
     ) -> u32 {
         hand::decode(format, attribute, vertex, values)
+    }
+
+    fn decode_all(&self, format: &FormatWords, vertex: &[u8], values: &mut VertexWords) -> u32 {
+        hand::decode_all(format, vertex, values)
     }
 
     fn raw_words(

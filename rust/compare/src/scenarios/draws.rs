@@ -73,6 +73,7 @@ pub fn draws(duo: &mut Duo, random: &mut Random) {
         for attribute in 0..21 {
             duo.decode(&words, attribute, &last);
         }
+        duo.decode_all(&words, &last);
     }
 }
 

@@ -192,6 +192,7 @@ fn of_vertices(duo: &mut Duo) {
         let vertex = vec![1; length];
         duo.lay_out(&format);
         duo.decode(&format, attribute, &vertex);
+        duo.decode_all(&format, &vertex);
         duo.raw_words(&format, attribute, &vertex);
     }
 }

@@ -91,6 +91,7 @@ fn attributes(duo: &mut Duo) {
             duo.decode(&format, attribute, &vertex[..length]);
             duo.raw_words(&format, attribute, &vertex[..length]);
         }
+        duo.decode_all(&format, &vertex[..length]);
     }
 }
 
@@ -104,6 +105,7 @@ fn normals(duo: &mut Duo) {
                 let format = [0xA00, 0, nine | number << 10 | bit_30, 0, 0];
                 let vertex = &vertex[..2 + components * bytes];
                 duo.decode(&format, 10, vertex);
+                duo.decode_all(&format, vertex);
                 duo.raw_words(&format, 10, vertex);
             }
         }
@@ -141,6 +143,7 @@ fn textures(duo: &mut Duo) {
             format[kind.0] |= number << kind.1;
             format[shift.0] |= (0x11 + number) << shift.1;
             let vertex = &vertex[..2 + 2 * bytes];
+            duo.decode_all(&format, vertex);
             duo.decode(&format, 13 + texture as u32, vertex);
             duo.raw_words(&format, 13 + texture as u32, vertex);
         }

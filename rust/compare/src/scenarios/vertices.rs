@@ -1,4 +1,4 @@
-//! Layouts, attributes and raw words.
+//! Layouts, attributes, whole vertices and raw words.
 
 use crate::duo::Duo;
 use crate::formats::{any_format, format_with_normal, length_of, vertex_bytes};
@@ -18,6 +18,7 @@ pub fn vertices(duo: &mut Duo, random: &mut Random) {
                 duo.raw_words(&format, attribute, &vertex);
             }
         }
+        duo.decode_all(&format, &vertex);
         let other = random.word();
         let attribute = random.pick(&[21, 22, 255, 256 + 9, 0x1_0009, u32::MAX, other]);
         duo.decode(&format, attribute, &vertex);
@@ -26,6 +27,7 @@ pub fn vertices(duo: &mut Duo, random: &mut Random) {
         let vertex = vertex_bytes(random, other);
         let attribute = random.below(22);
         duo.decode(&format, attribute, &vertex);
+        duo.decode_all(&format, &vertex);
         duo.raw_words(&format, attribute, &vertex);
     }
 }
@@ -43,6 +45,7 @@ pub fn normals(duo: &mut Duo, random: &mut Random) {
         for _ in 0..2 {
             format[2] ^= 1 << 30;
             duo.decode(&format, 10, &vertex);
+            duo.decode_all(&format, &vertex);
             duo.raw_words(&format, 10, &vertex);
         }
     }

@@ -91,7 +91,7 @@ fn sparse_words(random: &mut Random) -> FormatWords {
 fn stateless(duo: &mut Duo, random: &mut Random) {
     let attribute = random.u32() >> random.below(32);
     let length = (random.u8() >> random.below(8)) as usize;
-    match random.below(7) {
+    match random.below(8) {
         0 => {
             duo.lay_out(&sparse_words(random));
         }
@@ -101,9 +101,13 @@ fn stateless(duo: &mut Duo, random: &mut Random) {
         }
         2 => {
             let vertex = random.bytes(length);
-            duo.raw_words(&sparse_words(random), attribute, &vertex);
+            duo.decode_all(&sparse_words(random), &vertex);
         }
         3 => {
+            let vertex = random.bytes(length);
+            duo.raw_words(&sparse_words(random), attribute, &vertex);
+        }
+        4 => {
             let command = random.array().map(|word: u32| word >> random.below(32));
             let words = random.below(20) as usize;
             duo.write_command(command, &random.words(words), length);

@@ -4,7 +4,8 @@ mod steps;
 
 use compare::side::{Side, Twin};
 use model::words::{
-    CommandWords, FormatWords, ReportWords, StateWords, UnitWords, ValueWords, DONE, WAITING,
+    CommandWords, FormatWords, ReportWords, StateWords, UnitWords, ValueWords, VertexWords, DONE,
+    VALUE_WORDS, VERTEX_WORDS, WAITING,
 };
 use model::ATTRIBUTES;
 
@@ -27,6 +28,12 @@ faults! {
     LayoutZeroed,
     ValuesZeroed,
     RawWordsZeroed,
+    WholeZeroedByRefusal,
+    WholeLengthModulo,
+    WholeAbsentLeft,
+    WholeWithoutLast,
+    WholeAttributesSwapped,
+    WholeNanKept,
     WrittenZeroed,
     PatchWrittenZeroed,
     MergedZeroed,
@@ -136,7 +143,8 @@ const METRICS: u32 = 0x44;
 /// The metrics opcode until document 02's L2.
 const OLD_METRICS: u8 = 0x68;
 const LOAD_BP: u32 = 0x61;
-/// What a position and a normal decode to.
+/// What an absent attribute, a position and a normal decode to.
+const ABSENT: u32 = 0;
 const POSITION: u32 = 5;
 const NORMAL: u32 = 7;
 const NORMAL_OF_NINE: u32 = 8;
@@ -554,6 +562,41 @@ impl Side for Faulty {
             if values[1] == NAN && raw[0] != 0 {
                 values[1] = raw[1];
             }
+        }
+        answer
+    }
+
+    fn decode_all(&self, format: &FormatWords, vertex: &[u8], values: &mut VertexWords) -> u32 {
+        let before = *values;
+        let shorter = match self.0 {
+            Fault::WholeLengthModulo if vertex.len() > 256 => &vertex[..vertex.len() - 256],
+            _ => vertex,
+        };
+        let answer = Twin.decode_all(format, shorter, values);
+        match self.0 {
+            Fault::WholeZeroedByRefusal if answer != DONE => *values = [0; VERTEX_WORDS],
+            _ if answer != DONE => {}
+            Fault::WholeAbsentLeft => {
+                for from in (0..VERTEX_WORDS).step_by(VALUE_WORDS) {
+                    if values[from] == ABSENT {
+                        values[from + 1] = before[from + 1];
+                    }
+                }
+            }
+            Fault::WholeWithoutLast => values[200..].copy_from_slice(&before[200..]),
+            Fault::WholeAttributesSwapped => {
+                for at in 110..120 {
+                    values.swap(at, at + VALUE_WORDS);
+                }
+            }
+            Fault::WholeNanKept => {
+                let mut raw = [0; VALUE_WORDS];
+                Twin.raw_words(format, 9, vertex, &mut raw);
+                if values[91] == NAN && raw[0] != 0 {
+                    values[91] = raw[1];
+                }
+            }
+            _ => {}
         }
         answer
     }

@@ -25,6 +25,7 @@ pub const COMMAND_WORDS: usize = 5;
 pub const UNIT_WORDS: usize = 6;
 pub const REPORT_WORDS: usize = 2;
 pub const VALUE_WORDS: usize = 10;
+pub const VERTEX_WORDS: usize = ATTRIBUTES * VALUE_WORDS;
 
 pub type StateWords = [u32; STATE_WORDS];
 /// Groups 0 and 1 of the VCD, groups 0 to 2 of one format's VAT.
@@ -37,6 +38,8 @@ pub type UnitWords = [u32; UNIT_WORDS];
 pub type ReportWords = [u32; REPORT_WORDS];
 /// A kind or a count, and nine values.
 pub type ValueWords = [u32; VALUE_WORDS];
+/// So many for each attribute in order.
+pub type VertexWords = [u32; VERTEX_WORDS];
 
 /// Accepted, a unit done, the limit reached.
 pub const DONE: u32 = 0;
@@ -187,6 +190,20 @@ fn attribute_number(attribute: u32) -> u8 {
 pub fn decode(format: &FormatWords, attribute: u32, vertex: &[u8], values: &mut ValueWords) -> u32 {
     let answer = decode_attribute(&format_of(format), attribute_number(attribute), vertex);
     tell(answer.map(|attribute| value_words(&attribute)), values)
+}
+
+/// Every attribute decoded, one after the other.
+pub fn decode_all(format: &FormatWords, vertex: &[u8], values: &mut VertexWords) -> u32 {
+    let format = format_of(format);
+    let mut told = [0; VERTEX_WORDS];
+    for (attribute, words) in (0..).zip(told.chunks_exact_mut(VALUE_WORDS)) {
+        match decode_attribute(&format, attribute, vertex) {
+            Ok(value) => words.copy_from_slice(&value_words(&value)),
+            Err(refusal) => return refusal.number().into(),
+        }
+    }
+    *values = told;
+    DONE
 }
 
 pub fn raw_words(

@@ -27,7 +27,8 @@ returns : tie.Need-returns
 returns c =
     let k = c .before .before .before .before in
     rw (sym (k .before .before .descriptor .ensures))
-    (all-told (k .decode-all .ensures) (ap (λ (x : LayoutAnswer). firstOf (meaning x)) (c .before .before .answer .given .1) ∙ sym (c .refused .ensures)))
+    (all-told (k .decode-all .ensures) (ap (λ (x : LayoutAnswer). firstOf (meaning x)) (c .before .before .answer .given .1) ∙ sym (c
+    .refused .ensures)))
 
 returns-2 : tie.Need-returns-2
 returns-2 c =

@@ -37,8 +37,10 @@ returns-2 : tie.Need-returns-2
 returns-2 c =
     let i = c .before .before .before .before .before .before .before .before in
     let t = i .before .before in
-    fore-of (descriptor (t .before .before)) _ _ _ _ _ (t .before .position .ensures) (rw (i .normal-indices .ensures .0) at (c .before .before .before .before .before .before .before .normal .ensures))
-    (c .before .before .before .before .before .before .colour .ensures) (c .before .before .before .before .before .colour2 .ensures) (t .texture .ensures)
+    fore-of (descriptor (t .before .before)) _ _ _ _ _ (t .before .position .ensures) (rw (i .normal-indices .ensures .0) at (c .before
+    .before .before .before .before .before .before .normal .ensures))
+    (c .before .before .before .before .before .before .colour .ensures) (c .before .before .before .before .before .colour2 .ensures) (t
+    .texture .ensures)
 
 pub weigh-fore-spec : {M : Type 1} → statement M
 weigh-fore-spec =
