@@ -60,6 +60,21 @@ fn before(d: Descriptor, k: usize, fore: Fore, textures: Textures) -> u32
     }
 }
 
+// The bytes of all attributes, added pairwise; matrices are not counted where their nine bits are clear.
+fn total(d: Descriptor, fore: Fore, textures: Textures) -> u32
+    requires { ⌜ ForeOf d fore × TexturesOf d textures ⌝ }
+    ensures { λ r. ⌜ r ≡ offsetOf d 21 ⌝ }
+{
+    let near = (fore.position + fore.normal) + (fore.colour0 + fore.colour1) + fore.texture0;
+    let low = (textures.texture1 + textures.texture2) + (textures.texture3 + textures.texture4);
+    let high = (textures.texture5 + textures.texture6) + textures.texture7;
+    let sum = near + (low + high);
+    if d.vcd0 % 512 == 0 {
+        return sum;
+    }
+    matrices(d, 9) + sum
+}
+
 // The length, unless the one refusal applies, or else the other.
 fn length_unless(absent: bool, first: Reason, unknown: bool, second: Reason, length: u32) -> Extent
     ensures { λ r. ⌜ MeasuredAs (cond absent (number first) (cond unknown (number second) 0)) (cond absent 0 (cond unknown 0 length)) r ⌝ }
@@ -93,7 +108,7 @@ fn measured(d: Descriptor, fore: Fore, textures: Textures) -> Extent
         Reason::PositionAbsent,
         textures.unknown,
         Reason::UnknownFormat,
-        before(d, 21, fore, textures),
+        total(d, fore, textures),
     )
 }
 

@@ -1,14 +1,13 @@
 -- No position is 9, an unknown format 10, and else the length is the sum of all attributes.
 use mathlib.Core.Path.{refl}
-use lib.Dec.{lit≤}
 use Rattle.layout.specs.Fields.{bitsAt, modes, modeOf}
 use Rattle.layout.proofs.Meanings.{measured}
 use borrow.Author.Needs.{needs}
 use Rattle.layout.proofs.measuring.measured.Statement.{statement}
 use Rattle.layout.proofs.measuring.measured.Tie as tie
 
-before-requires : tie.Need-before-requires
-before-requires c κs = search needs
+total-requires : tie.Need-total-requires
+total-requires c κs = search needs
 
 length-unless-requires : tie.Need-length-unless-requires
 length-unless-requires c κs = search needs
@@ -17,7 +16,7 @@ returns : tie.Need-returns
 unfolding modeOf bitsAt modes
 returns c =
     let s = c .before .before .before in
-    measured (s .args .d) _ _ _ _ refl (s .pre .1 .unknown-is) (c .before .before2 .ensures (lit≤ tt)) (c .length-unless .ensures)
+    measured (s .args .d) _ _ _ _ refl (s .pre .1 .unknown-is) (c .before .total .ensures) (c .length-unless .ensures)
 
 pub measured-spec : {M : Type 1} → statement M
-measured-spec = tie.close (tie.spec before-requires length-unless-requires returns)
+measured-spec = tie.close (tie.spec total-requires length-unless-requires returns)
