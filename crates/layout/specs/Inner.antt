@@ -2,7 +2,7 @@
 use mathlib.Core.Path.{_≡_}
 use mathlib.Core.Bool.{Bool, false, cond, _&&_}
 use mathlib.Core.List.{[], _∷_}
-use Prim.Native.Nat.{ℕ, _*_, _/_, _%_, _^_, _<_, _≤_}
+use Prim.Native.Nat.{ℕ, _*_, _/_, _%_, _^_, _<_, _≤_, min}
 use lib.Dec.{leb, eqb}
 use Rattle.layout.specs.declared.Descriptor.{Descriptor}
 use Rattle.layout.specs.declared.Spot.{Spot}
@@ -63,8 +63,8 @@ pub record TexturesOf (d : Descriptor) (r : Textures) : Type 0 where
   pub texture7-is : r .texture7 ≡ sizeOf d 20
   pub unknown-is : r .unknown ≡ anyUnknown d 21
 
--- what `find` promises: the answer and the length of the layout, and the sum before attribute k
+-- what `find` promises: the answer and the length of the layout, and the sum before attribute k, of all above 20
 pub record SpotOf (d : Descriptor) (k : ℕ) (r : Spot) : Type 0 where
   pub answer-is : meaning (r .answer) ≡ refusalOf d ∷ []
   pub length-is : r .length ≡ lengthOf d
-  pub offset-is : k ≤ 21 → r .offset ≡ offsetOf d k
+  pub offset-is : r .offset ≡ offsetOf d (min k 21)

@@ -9,7 +9,7 @@ use crate::parts::Textures;
 use refusal::Reason;
 ghost use mathlib.Core.Path.{_≡_};
 ghost use mathlib.Core.Bool.{cond};
-ghost use Prim.Native.Nat.{_≤_};
+ghost use Prim.Native.Nat.{_≤_, min};
 ghost use Rattle.refusal.specs.Number.{number};
 ghost use Rattle.layout.specs.Sizes.{offsetOf};
 ghost use Rattle.layout.specs.Answers.{Measured, MeasuredAs};
@@ -126,6 +126,13 @@ pub fn measure(d: Descriptor) -> Extent
     measured(d, fore, textures)
 }
 
+// At most 21.
+fn capped(k: usize) -> usize
+    ensures { λ r. ⌜ r ≡ min k 21 ⌝ }
+{
+    if k < 21 { k } else { 21 }
+}
+
 // The length of a vertex and where attribute k starts in it, or the reason why it has none.
 pub fn find(d: Descriptor, k: usize) -> Spot
     ensures { λ r. ⌜ SpotOf d k r ⌝ }
@@ -142,6 +149,6 @@ pub fn find(d: Descriptor, k: usize) -> Spot
     Spot {
         answer,
         length: extent.length,
-        offset: before(d, k, fore, textures),
+        offset: before(d, capped(k), fore, textures),
     }
 }

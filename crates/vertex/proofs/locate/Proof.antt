@@ -1,8 +1,9 @@
 -- The refusal of the layout, else 19 by number and length, else the sum before the attribute.
 use mathlib.Core.Path.{_≡_, sym, ap, _∙_}
 use mathlib.Core.List.{[], _∷_}
-use Prim.Native.Nat.{ℕ, _<_}
+use Prim.Native.Nat.{ℕ, _<_, min}
 use native.Mathlib.Omega.{arith}
+use Rattle.layout.specs.declared.Descriptor.{Descriptor}
 use Rattle.layout.specs.Sizes.{offsetOf}
 use Rattle.layout.specs.Answers.{refusalOf}
 use Rattle.layout.proofs.Bounds.{length-accepted, offset-le}
@@ -54,13 +55,17 @@ returns-2 c =
     (λ h. c .if2 .taken (h ∙ sym (length-is at))))
     (λ e. omega arith)
 
+-- where an attribute starts that there is
+found-at : (d : Descriptor) (k : ℕ) {n : ℕ} → k < 21 → n ≡ offsetOf d (min k 21) → n ≡ offsetOf d k
+found-at d k h e = let m : min k 21 ≡ k = omega arith in e ∙ ap (offsetOf d) m
+
 cast-t15 : tie.Need-cast-t15
 cast-t15 c =
     let at = c .before .before in
     let a = at .before .before .before .before .args in
     omega (
       arith,
-      at .before .before .find .ensures .offset-is (omega (arith, c .before .if1 .left)),
+      found-at (a .descriptor) (a .k) (omega (arith, c .before .if1 .left)) (at .before .before .find .ensures .offset-is),
       offset-le (a .descriptor) (a .k) (omega (arith, c .before .if1 .left)),
     )
 
@@ -78,7 +83,7 @@ returns-4 c =
     let a = spot .before .before .args in
     let d = a .descriptor in
     let h : a .k < 21 = omega (arith, c .before .if1 .left) in
-    ap (λ (x : ℕ). 0 ∷ x ∷ []) (spot .find .ensures .offset-is (omega arith))
+    ap (λ (x : ℕ). 0 ∷ x ∷ []) (found-at d (a .k) h (spot .find .ensures .offset-is))
     ∙ unless-accepted (refusalAt d (a .k) (a .vertex .now)) (offsetOf d (a .k) ∷ [])
     (accepted-at d (a .k) (a .vertex .now) (accepted at) h (c .if2 .left ∙ length-is at))
 
