@@ -1,6 +1,6 @@
 -- What the calls on a format, a command and patches promise, from what the functions that they call promise.
-use mathlib.Core.Path.{_≡_, sym, ap, _∙_}
-use mathlib.Core.Bool.{cond}
+use mathlib.Core.Path.{_≡_, refl, sym, ap, _∙_}
+use mathlib.Core.Bool.{Bool, true, false, cond}
 use mathlib.Core.Logic.{⊎-elim}
 use mathlib.Core.List.{List, [], _∷_}
 use Prim.Native.Nat.{ℕ}
@@ -18,14 +18,10 @@ use Rattle.layout.specs.declared.LayoutAnswer.the-variants as laid
 use Rattle.layout.specs.Sizes.{sizeOf, offsetOf}
 use Rattle.layout.specs.Answers.{refusalOf, lengthOf, Laid}
 use Rattle.layout.specs.Answers as layouts
-use Rattle.vertex.specs.declared.Answer.{Answer}
-use Rattle.vertex.specs.declared.Answer.the-variants as decoded
-use Rattle.vertex.specs.declared.Attribute.{Attribute}
 use Rattle.vertex.specs.declared.RawWords.{RawWords}
 use Rattle.vertex.specs.declared.RawAnswer.the-variants as raw
-use Rattle.vertex.specs.Attributes.{singlesOf, wordsOf}
-use Rattle.vertex.specs.Answers.{Decodes, RawIs, told, refusalAt, unless, rawMeaning}
-use Rattle.vertex.specs.Answers as vertices
+use Rattle.vertex.specs.Attributes.{attributeList, singlesOf, wordsOf}
+use Rattle.vertex.specs.Answers.{RawIs, refusalAt, unless, decodingOf, rawMeaning}
 use Rattle.writer.specs.declared.Written.{Written}
 use Rattle.writer.specs.declared.Written.the-variants as written
 use Rattle.writer.specs.Write as writer
@@ -34,7 +30,7 @@ use Rattle.patch.specs.Patch.{Patch, mergedOf}
 use Rattle.patch.specs.Answers as patches
 use Rattle.patch.specs.Merging.{Merges, mergeRefusal}
 use Rattle.encoding.specs.Told.{firstOf, secondOf, padded}
-use Rattle.whole.specs.Whole.{wholeTo, wholeRefusal, DecodesAll}
+use Rattle.whole.specs.Whole.{wholeTo, wholeRefusal, DecodesOne, DecodesAll}
 use Rattle.duckhammock.specs.Formats.{LaysOut, TellsAttribute, TellsAll, KeepsBits, PutsBytes, MergesInto}
 use Rattle.duckhammock.specs.Counting.{CountsBytes}
 use Rattle.duckhammock.proofs.Refusals.{stays, stays-number, first-is}
@@ -65,20 +61,26 @@ module _ {d : Descriptor} {l : Layout} (h : Laid d l) (sizes offsets : List ℕ)
 
 -- ---- an attribute
 
-module _ {d : Descriptor} {k : ℕ} {vertex : List ℕ} {a : Answer} (h : Decodes d k vertex a) (values : List ℕ) where
-  pub decode-refused : (reason : Reason) {r : ℕ} → a ≡ decoded.Refused reason → r ≡ number reason
-      → TellsAttribute d k vertex values r values
-  decode-refused reason t e =
-      record {
-        answer-is = e ∙ ap (λ (x : Answer). firstOf (vertices.meaning x)) (sym t) ∙ ap firstOf (h .meaning-is);
-        values-are = stays reason e _ values;
-      }
+-- words of what is accepted, or the old ones
+told-by : (b : Bool) (n : ℕ) (l values : List ℕ)
+    → cond b (padded 10 l) values ≡ cond b (padded 10 (drop 1 (cond b (0 ∷ l) (n ∷ [])))) values
+told-by true n l values = refl
+told-by false n l values = refl
 
-  pub decode-done : (is : Attribute) {values' : List ℕ} → a ≡ decoded.Done is → values' ≡ padded 10 (told is)
-      → TellsAttribute d k vertex values 0 values'
-  decode-done is t e =
-      let m = ap vertices.meaning (sym t) ∙ h .meaning-is in
-      record { answer-is = ap firstOf m; values-are = e ∙ ap (λ (x : List ℕ). padded 10 (drop 1 x)) m }
+module _ {d : Descriptor} {k : ℕ} {vertex values values' : List ℕ} {a : LayoutAnswer} (h : DecodesOne d k vertex values a values') where
+  -- the answer's number is the refusal
+  refusal-is : {r : ℕ} → firstOf (layouts.meaning a) ≡ r → r ≡ refusalAt d k vertex
+  refusal-is e = sym e ∙ ap firstOf (h .answer-is)
+
+  pub one-told : {r : ℕ} → firstOf (layouts.meaning a) ≡ r → TellsAttribute d k vertex values r values'
+  one-told {r} e =
+      let l = attributeList d k vertex (offsetOf d k) in
+      let n = refusalAt d k vertex in
+      record {
+        answer-is = refusal-is e ∙ sym (first-is n l);
+        values-are = h .values-are ∙ told-by (eqb n 0) n l values
+            ∙ ap (λ (x : ℕ). cond (eqb x 0) (padded 10 (drop 1 (decodingOf d k vertex))) values) (sym (refusal-is e));
+      }
 
 -- ---- a whole vertex
 

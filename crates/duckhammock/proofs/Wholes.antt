@@ -12,7 +12,8 @@ use Rattle.vertex.specs.Answers.{refusalAt, unless}
 use Rattle.encoding.specs.Told.{padded}
 use Rattle.whole.specs.Whole.{wholeTo}
 use Rattle.whole.proofs.Tens.{refusal-alike, part-of-whole}
-use Rattle.duckhammock.specs.Formats.{TellsAttribute, TellsAll, WholePromises}
+use Rattle.duckhammock.specs.Formats.{TellsAttribute, TellsAll}
+use Rattle.duckhammock.specs.Promises.{WholePromises}
 use Rattle.duckhammock.proofs.Refusals.{first-is}
 
 module _ (d : Descriptor) (k : ℕ) (vertex values : List ℕ) (r : ℕ) (values' one : List ℕ) (s : ℕ) (one' : List ℕ) (h : k < 21)

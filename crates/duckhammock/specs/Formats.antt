@@ -3,9 +3,9 @@
 use mathlib.Core.Path.{_≡_}
 use mathlib.Core.Bool.{cond}
 use mathlib.Core.List.{List, _∷_}
-use Prim.Native.Nat.{ℕ, _*_, _<_}
+use Prim.Native.Nat.{ℕ}
 use lib.Dec.{eqb}
-use lib.ListN.{length, take, drop}
+use lib.ListN.{length, drop}
 use Rattle.laws.specs.Values.{upTo}
 use Rattle.layout.specs.declared.Descriptor.{Descriptor}
 use Rattle.layout.specs.Sizes.{sizeOf, offsetOf}
@@ -37,15 +37,6 @@ pub record TellsAttribute (d : Descriptor) (k : ℕ) (vertex values : List ℕ) 
 pub record TellsAll (d : Descriptor) (vertex values : List ℕ) (r : ℕ) (values' : List ℕ) : Type 0 where
   pub answer-is : r ≡ wholeRefusal d vertex
   pub values-are : values' ≡ cond (eqb r 0) (wholeTo d vertex 21) values
-
--- that it is 21 decodes (proved in proofs/Wholes): each premise is the contract of a call, as it stands
-pub record WholePromises : Type 0 where
-  -- it is refused just where the decode of an attribute is, by the same number
-  pub refused-alike : (d : Descriptor) (k : ℕ) (vertex values : List ℕ) (r : ℕ) (values' one : List ℕ) (s : ℕ) (one' : List ℕ) → k < 21
-      → TellsAll d vertex values r values' → TellsAttribute d k vertex one s one' → r ≡ s
-  -- and else the ten words from 10 k on are what the decode of attribute k tells
-  pub told-alike : (d : Descriptor) (k : ℕ) (vertex values : List ℕ) (r : ℕ) (values' one : List ℕ) (s : ℕ) (one' : List ℕ) → k < 21
-      → TellsAll d vertex values r values' → TellsAttribute d k vertex one s one' → r ≡ 0 → take 10 (drop (10 * k) values') ≡ one'
 
 -- "f32 keeps its bits": how many f32 components an attribute has, and their patterns, then zeros
 pub record KeepsBits (d : Descriptor) (k : ℕ) (vertex values : List ℕ) (r : ℕ) (values' : List ℕ) : Type 0 where

@@ -1,10 +1,10 @@
 -- What one call leaves is what the next one reads: the words and the memory after a call say the state after document 01's call, after
 -- refused and waiting calls too (`CallsPromises`, proved in proofs/Chained). What a call that waits tells (`LackingPromises`, in
--- proofs/Waiting).
+-- proofs/Waiting). What a whole vertex by one call tells (`WholePromises`, in proofs/Wholes).
 use mathlib.Core.Path.{_≡_}
 use mathlib.Core.List.{List}
-use Prim.Native.Nat.{ℕ, _≤_}
-use lib.ListN.{length}
+use Prim.Native.Nat.{ℕ, _*_, _<_, _≤_}
+use lib.ListN.{length, take, drop}
 use Rattle.octets.specs.BigEndian.{Octets}
 use Rattle.command.specs.Command.{waiting}
 use Rattle.fifo.specs.Registers.{written}
@@ -15,6 +15,8 @@ use Rattle.running.specs.Run.{runOf}
 use Rattle.words.specs.State.{windowOf, fifoOf, stateAt}
 use Rattle.words.specs.Promises.{stateWith}
 use Rattle.encoding.specs.Told.{secondOf}
+use Rattle.layout.specs.declared.Descriptor.{Descriptor}
+use Rattle.duckhammock.specs.Formats.{TellsAttribute, TellsAll}
 use Rattle.duckhammock.specs.Calls.{WritesRegister, Feeds, Lent, lentOf, Tells, Ends}
 
 -- the state that what was lent says
@@ -56,3 +58,12 @@ pub record LackingPromises : Type 0 where
   pub stopped-at : (ring words xf vertex : List ℕ) (limit r : ℕ) (lent' : Lent) (report' : List ℕ) → Octets ring → length words ≡ 327
       → Ends (runOf ring limit (stateAt words xf vertex)) (lentOf words xf vertex) r lent' report' → r ≡ 255
       → stepFound ring (saidBy lent') ≡ waiting (secondOf report')
+
+-- A whole vertex decoded is 21 decodes. Each premise is the contract of a call, as it stands.
+pub record WholePromises : Type 0 where
+  -- it is refused just where the decode of an attribute is, by the same number
+  pub refused-alike : (d : Descriptor) (k : ℕ) (vertex values : List ℕ) (r : ℕ) (values' one : List ℕ) (s : ℕ) (one' : List ℕ) → k < 21
+      → TellsAll d vertex values r values' → TellsAttribute d k vertex one s one' → r ≡ s
+  -- and else the ten words from 10 k on are what the decode of attribute k tells
+  pub told-alike : (d : Descriptor) (k : ℕ) (vertex values : List ℕ) (r : ℕ) (values' one : List ℕ) (s : ℕ) (one' : List ℕ) → k < 21
+      → TellsAll d vertex values r values' → TellsAttribute d k vertex one s one' → r ≡ 0 → take 10 (drop (10 * k) values') ≡ one'

@@ -1,7 +1,6 @@
 // A vertex format of five words: its layout, and the attributes of a vertex.
 use crate::refused;
 use layout::LayoutAnswer;
-use vertex::Answer;
 use vertex::RawAnswer;
 ghost use Rattle.encoding.specs.Named.{formatNamed};
 ghost use Rattle.duckhammock.specs.Formats.{LaysOut, TellsAttribute, TellsAll, KeepsBits};
@@ -41,14 +40,16 @@ pub extern "C" fn duckhammock_decode(
     ensures { λ r. ⌜ TellsAttribute (formatNamed (now (format .entry))) attribute (now (vertex .entry)) (now (values .entry))
         r (now (values .exit)) ⌝ }
 {
-    let decoded = vertex::decode(encoding::descriptor(format), attribute as usize, vertex);
-    match decoded {
-        Answer::Refused(reason) => refused(reason),
-        Answer::Done(is) => {
-            *values = encoding::attribute_words(is);
-            0
-        }
+    let told = whole::decode_one(
+        encoding::descriptor(format),
+        attribute as usize,
+        vertex,
+        values,
+    );
+    if let LayoutAnswer::Refused(reason) = told {
+        return refused(reason);
     }
+    0
 }
 
 // All attributes of a vertex: ten words each, the kind and nine values, zeros where unused.

@@ -2,7 +2,7 @@
 use mathlib.Core.Path.{_≡_}
 use mathlib.Core.Bool.{Bool, cond}
 use mathlib.Core.List.{List, [], _∷_}
-use Prim.Native.Nat.{ℕ}
+use Prim.Native.Nat.{ℕ, min}
 use lib.Dec.{eqb}
 use lib.ListN.{replicate}
 use Rattle.laws.specs.Values.{upTo}
@@ -12,6 +12,7 @@ use Rattle.layout.specs.declared.Descriptor.{Descriptor}
 use Rattle.layout.specs.declared.Layout.{Layout}
 use Rattle.layout.specs.declared.LayoutAnswer.{LayoutAnswer}
 use Rattle.layout.specs.declared.Extent.{Extent}
+use Rattle.layout.specs.declared.Spot.{Spot}
 use Rattle.layout.specs.declared.LayoutAnswer.the-variants.{Accepted, Refused}
 use Rattle.layout.specs.Fields.{modeOf}
 use Rattle.layout.specs.Sizes.{sizeOf, offsetOf, anyUnknown}
@@ -62,3 +63,9 @@ pub record MeasuredAs (refusal length : ℕ) (r : Extent) : Type 0 where
 -- what `measure` promises: the answer and the length of the layout
 abbrev pub Measured : Descriptor → Extent → Type 0
 Measured d r = MeasuredAs (refusalOf d) (lengthOf d) r
+
+-- what `find` promises: the answer and the length of the layout, and the sum before attribute k, of all above 20
+pub record SpotOf (d : Descriptor) (k : ℕ) (r : Spot) : Type 0 where
+  pub answer-is : meaning (r .answer) ≡ refusalOf d ∷ []
+  pub length-is : r .length ≡ lengthOf d
+  pub offset-is : r .offset ≡ offsetOf d (min k 21)

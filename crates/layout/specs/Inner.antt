@@ -1,18 +1,16 @@
 -- For the code's own functions: nothing here is part of what a layout is.
 use mathlib.Core.Path.{_≡_}
 use mathlib.Core.Bool.{Bool, false, cond, _&&_}
-use mathlib.Core.List.{[], _∷_}
-use Prim.Native.Nat.{ℕ, _*_, _/_, _%_, _^_, _<_, _≤_, min}
+use Prim.Native.Nat.{ℕ, _*_, _/_, _%_, _^_, _<_, _≤_}
 use lib.Dec.{leb, eqb}
 use Rattle.layout.specs.declared.Descriptor.{Descriptor}
-use Rattle.layout.specs.declared.Spot.{Spot}
 use Rattle.layout.specs.declared.Vat.{Vat}
+use Rattle.layout.specs.declared.measuring.Sum.{Sum}
 use Rattle.layout.specs.declared.parts.Part.{Part}
 use Rattle.layout.specs.declared.parts.Fore.{Fore}
 use Rattle.layout.specs.declared.parts.Textures.{Textures}
 use Rattle.layout.specs.Fields.{bitsAt, placeIn, shifts, modeOf, countOf, formatOf}
 use Rattle.layout.specs.Sizes.{isColour, directOf, indexWidth, sizeOf, offsetOf, anyUnknown}
-use Rattle.layout.specs.Answers.{meaning, refusalOf, lengthOf}
 
 -- the descriptor of five words
 abbrev pub asked : ℕ → ℕ → ℕ → ℕ → ℕ → Descriptor
@@ -63,8 +61,7 @@ pub record TexturesOf (d : Descriptor) (r : Textures) : Type 0 where
   pub texture7-is : r .texture7 ≡ sizeOf d 20
   pub unknown-is : r .unknown ≡ anyUnknown d 21
 
--- what `find` promises: the answer and the length of the layout, and the sum before attribute k, of all above 20
-pub record SpotOf (d : Descriptor) (k : ℕ) (r : Spot) : Type 0 where
-  pub answer-is : meaning (r .answer) ≡ refusalOf d ∷ []
-  pub length-is : r .length ≡ lengthOf d
-  pub offset-is : r .offset ≡ offsetOf d (min k 21)
+-- all attributes, and the matrices among them
+pub record SumOf (d : Descriptor) (r : Sum) : Type 0 where
+  pub bytes-are : r .bytes ≡ offsetOf d 21
+  pub matrices-are : r .matrices ≡ offsetOf d 9

@@ -53,7 +53,7 @@ pub struct Extent {
     pub length: u32,
 }
 
-// The length of a vertex, and where one attribute starts in it.
+// The length of a vertex, 0 where it is refused, and where one attribute starts in it, refused or not.
 pub struct Spot {
     pub answer: LayoutAnswer,
     pub length: u32,

@@ -12,8 +12,14 @@ ghost use mathlib.Core.Bool.{cond};
 ghost use Prim.Native.Nat.{_≤_, min};
 ghost use Rattle.refusal.specs.Number.{number};
 ghost use Rattle.layout.specs.Sizes.{offsetOf};
-ghost use Rattle.layout.specs.Answers.{Measured, MeasuredAs};
-ghost use Rattle.layout.specs.Inner.{ForeOf, TexturesOf, SpotOf};
+ghost use Rattle.layout.specs.Answers.{Measured, MeasuredAs, SpotOf};
+ghost use Rattle.layout.specs.Inner.{ForeOf, TexturesOf, SumOf};
+
+// The bytes of all attributes, and of the matrices among them.
+pub struct Sum {
+    pub bytes: u32,
+    pub matrices: u32,
+}
 
 // The bytes of the first k matrices, one for each bit that is set.
 fn matrices(d: Descriptor, k: u32) -> u32
@@ -61,18 +67,26 @@ fn before(d: Descriptor, k: usize, fore: Fore, textures: Textures) -> u32
 }
 
 // The bytes of all attributes, added pairwise; matrices are not counted where their nine bits are clear.
-fn total(d: Descriptor, fore: Fore, textures: Textures) -> u32
+fn total(d: Descriptor, fore: Fore, textures: Textures) -> Sum
     requires { ⌜ ForeOf d fore × TexturesOf d textures ⌝ }
-    ensures { λ r. ⌜ r ≡ offsetOf d 21 ⌝ }
+    ensures { λ r. ⌜ SumOf d r ⌝ }
 {
     let near = (fore.position + fore.normal) + (fore.colour0 + fore.colour1) + fore.texture0;
     let low = (textures.texture1 + textures.texture2) + (textures.texture3 + textures.texture4);
     let high = (textures.texture5 + textures.texture6) + textures.texture7;
     let sum = near + (low + high);
     if d.vcd0 % 512 == 0 {
-        return sum;
+        return Sum {
+            bytes: sum,
+            matrices: 0,
+        };
     }
-    matrices(d, 9) + sum
+    let first = matrices(d, 9);
+    let all = first + sum;
+    Sum {
+        bytes: all,
+        matrices: first,
+    }
 }
 
 // The length, unless the one refusal applies, or else the other.
@@ -97,9 +111,9 @@ fn length_unless(absent: bool, first: Reason, unknown: bool, second: Reason, len
     }
 }
 
-// The length, of attributes that were weighed: refused by 9, then 10.
-fn measured(d: Descriptor, fore: Fore, textures: Textures) -> Extent
-    requires { ⌜ ForeOf d fore × TexturesOf d textures ⌝ }
+// The length, of attributes that were weighed and added: refused by 9, then 10.
+fn measured(d: Descriptor, textures: Textures, length: u32) -> Extent
+    requires { ⌜ TexturesOf d textures × (length ≡ offsetOf d 21) ⌝ }
     ensures { λ r. ⌜ Measured d r ⌝ }
 {
     let absent = (d.vcd0 >> 9) % 4 == 0;
@@ -108,7 +122,7 @@ fn measured(d: Descriptor, fore: Fore, textures: Textures) -> Extent
         Reason::PositionAbsent,
         textures.unknown,
         Reason::UnknownFormat,
-        total(d, fore, textures),
+        length,
     )
 }
 
@@ -123,7 +137,8 @@ pub fn measure(d: Descriptor) -> Extent
     let vat2 = d.vat2;
     let fore = parts::weigh_fore(vcd0, vcd1, vat0, vat1, vat2);
     let textures = parts::weigh_textures(vcd0, vcd1, vat0, vat1, vat2, fore.unknown);
-    measured(d, fore, textures)
+    let sum = total(d, fore, textures);
+    measured(d, textures, sum.bytes)
 }
 
 // At most 21.
@@ -133,7 +148,8 @@ fn capped(k: usize) -> usize
     if k < 21 { k } else { 21 }
 }
 
-// The length of a vertex and where attribute k starts in it, or the reason why it has none.
+// The length of a vertex and where attribute k starts in it, or the reason why it has none; positions, which are asked for most, start
+// after the matrices, which are added already.
 pub fn find(d: Descriptor, k: usize) -> Spot
     ensures { λ r. ⌜ SpotOf d k r ⌝ }
 {
@@ -144,8 +160,16 @@ pub fn find(d: Descriptor, k: usize) -> Spot
     let vat2 = d.vat2;
     let fore = parts::weigh_fore(vcd0, vcd1, vat0, vat1, vat2);
     let textures = parts::weigh_textures(vcd0, vcd1, vat0, vat1, vat2, fore.unknown);
-    let extent = measured(d, fore, textures);
+    let sum = total(d, fore, textures);
+    let extent = measured(d, textures, sum.bytes);
     let answer = extent.answer;
+    if k == 9 {
+        return Spot {
+            answer,
+            length: extent.length,
+            offset: sum.matrices,
+        };
+    }
     Spot {
         answer,
         length: extent.length,

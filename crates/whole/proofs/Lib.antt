@@ -1,3 +1,4 @@
 pub mod Tens
 pub mod Untold
 pub mod Wholly
+pub mod Singles

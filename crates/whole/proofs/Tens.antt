@@ -1,57 +1,73 @@
 -- Ten words for each attribute: what an attribute's kind and components are word by word, and words put one after the other.
 use mathlib.Core.Path.{_≡_, refl, sym, ap, ap₂, _∙_}
+use mathlib.Core.Bool.{Bool, true, false, cond}
 use mathlib.Core.Logic.{inl, inr}
 use mathlib.Core.List.{List, [], _∷_, _++_, append-assoc, append-nil}
-use Prim.Native.Nat.{ℕ, zero, suc, _+_, _*_, _%_, _<_}
-use native.Mathlib.Nat.{mod-lt, add-zero, le-of-eq, eq-or-lt-of-le, le-of-suc-le-suc, not-suc-le-zero}
+use Prim.Native.Nat.{ℕ, zero, suc, _+_, _-_, _*_, _%_, _<_, _≤_}
+use native.Mathlib.Nat.{mod-lt, mul-le-mul, le-refl, add-zero, le-of-eq, eq-or-lt-of-le, le-of-suc-le-suc, not-suc-le-zero}
 use native.Mathlib.Numerals.{add-one}
 use native.Mathlib.Omega.{arith}
-use lib.Dec.{lit<}
+use lib.Dec.{eqb, lit<}
 use lib.ListN.{length, getD, take, drop, set, replicate, length-append, length-drop, take-append-drop, drop-of-length-le}
 use lib.Seq.{take-suc, drop-drop, drop-cons, set-at, append-snoc, take-at, drop-at, length-take-le}
 use borrow.Author.Tests.{lt-ltb}
 use Rattle.laws.specs.Values.{upTo}
 use Rattle.layout.specs.declared.Descriptor.{Descriptor}
-use Rattle.layout.specs.Sizes.{sizeOf, offsetOf}
+use Rattle.layout.specs.Sizes.{componentsOf, sizeOf, offsetOf}
 use Rattle.layout.proofs.Tests.{sum-next}
 use Rattle.vertex.specs.Attributes.{bitsOf, paddedList, componentList, attributeList}
 use Rattle.vertex.specs.Answers.{refusalAt}
 use Rattle.encoding.specs.Told.{padded}
-use Rattle.whole.specs.Whole.{wholeTo, wholeRefusal, tenAt, Moves}
+use Rattle.whole.specs.Whole.{wholeTo, wholeRefusal}
+use Rattle.whole.specs.Inner.{tenAt, fewList, frameList, fewKind, Tells, TellsFrom}
 
--- a count bit that is set
-one : (n : ℕ) → (n % 2 ≡ 0 → ⊥) → n % 2 ≡ 1
-one n h = omega (arith, mod-lt n {m = 2} (lit< tt))
+-- ---- components, by the number of the attribute and the count bit
 
--- ---- components, by the count bit
-module _ (l : List ℕ) (at f s count : ℕ) where
-  abbrev part : ℕ → ℕ
-  part i = bitsOf l at f s i
+-- how many there are, of a position, a normal or else a texture
+abbrev many-of : Bool → Bool → ℕ → ℕ
+many-of a b c = cond a (2 + c) (cond b (3 + 6 * c) (1 + c))
 
-  pub two-of-position : count % 2 ≡ 0 → componentList l at 9 count f s ≡ 5 ∷ part 0 ∷ part 1 ∷ 0 ∷ []
-  unfolding componentList paddedList upTo
-  two-of-position e = rw e
+module _ (l : List ℕ) (at f s : ℕ) where
+  -- its kind and components
+  abbrev listed : Bool → Bool → ℕ → List ℕ
+  listed a b c =
+      cond a 5 (cond b (7 + c) 6)
+      ∷ (upTo (bitsOf l at f s) (many-of a b c) ++ replicate (cond b (many-of a b c) (many-of a b 1) - many-of a b c) 0)
 
-  pub three-of-position : (count % 2 ≡ 0 → ⊥) → componentList l at 9 count f s ≡ 5 ∷ part 0 ∷ part 1 ∷ part 2 ∷ []
-  unfolding componentList paddedList upTo
-  three-of-position h = rw (one count h)
+  few-by : (a b : Bool) (c : ℕ) → c < 2 → (many-of a b c ≡ 9 → ⊥)
+      → padded 10 (fewList (cond a 5 (cond b 7 6)) l at f s (many-of a b c)) ≡ padded 10 (listed a b c)
+  unfolding upTo
+  few-by true true zero h n = refl
+  few-by true true (suc zero) h n = refl
+  few-by true false zero h n = refl
+  few-by true false (suc zero) h n = refl
+  few-by false true zero h n = refl
+  few-by false true (suc zero) h n = absurd (n refl)
+  few-by false false zero h n = refl
+  few-by false false (suc zero) h n = refl
+  few-by a b (suc (suc c)) h n = absurd (omega arith)
 
-  pub three-of-normal : count % 2 ≡ 0 → componentList l at 10 count f s ≡ 7 ∷ part 0 ∷ part 1 ∷ part 2 ∷ []
-  unfolding componentList paddedList upTo
-  three-of-normal e = rw e
+  frame-by : (a b : Bool) (c : ℕ) → c < 2 → many-of a b c ≡ 9 → frameList l at f s ≡ padded 10 (listed a b c)
+  unfolding upTo
+  frame-by true b c h n = absurd (omega arith)
+  frame-by false true zero h n = absurd (omega arith)
+  frame-by false true (suc zero) h n = refl
+  frame-by false true (suc (suc c)) h n = absurd (omega arith)
+  frame-by false false c h n = absurd (omega arith)
 
-  pub nine-of-normal : (count % 2 ≡ 0 → ⊥) → componentList l at 10 count f s
-      ≡ 8 ∷ part 0 ∷ part 1 ∷ part 2 ∷ part 3 ∷ part 4 ∷ part 5 ∷ part 6 ∷ part 7 ∷ part 8 ∷ []
-  unfolding componentList paddedList upTo
-  nine-of-normal h = rw (one count h)
+  module _ (k count : ℕ) where
+    pub few-told : (componentsOf k count ≡ 9 → ⊥)
+        → padded 10 (fewList (fewKind k) l at f s (componentsOf k count)) ≡ padded 10 (componentList l at k count f s)
+    unfolding componentList paddedList
+    few-told n = few-by (eqb k 9) (eqb k 10) (count % 2) (mod-lt count (lit< tt)) n
 
-  pub one-of-texture : count % 2 ≡ 0 → componentList l at 13 count f s ≡ 6 ∷ part 0 ∷ 0 ∷ []
-  unfolding componentList paddedList upTo
-  one-of-texture e = rw e
+    pub frame-told : componentsOf k count ≡ 9 → frameList l at f s ≡ padded 10 (componentList l at k count f s)
+    unfolding componentList paddedList
+    frame-told n = frame-by (eqb k 9) (eqb k 10) (count % 2) (mod-lt count (lit< tt)) n
 
-  pub two-of-texture : (count % 2 ≡ 0 → ⊥) → componentList l at 13 count f s ≡ 6 ∷ part 0 ∷ part 1 ∷ []
-  unfolding componentList paddedList upTo
-  two-of-texture h = rw (one count h)
+-- fewer components have room where more do
+pub room-for : (at m n w most : ℕ) → m ≤ n → at + n * w ≤ most → at + m * w ≤ most
+room-for at m n w most h k = omega (arith, mul-le-mul h (le-refl w))
 
 -- ---- one word after the other
 pub put-none : (old : List ℕ) (at : ℕ) (words : List ℕ) → old ≡ take at old ++ (take 0 words ++ drop (at + 0) old)
@@ -94,21 +110,22 @@ length-whole d l (suc k) =
       length-padded (attributeList d k l (offsetOf d k)),
     )
 
-length-ten : (k : ℕ) (words values : List ℕ) → k < 21 → length values ≡ 210 → length words ≡ 10 → length (tenAt k words values) ≡ 210
-length-ten k words values h e f =
+length-ten : (slot : ℕ) (words values : List ℕ) → slot + 10 ≤ length values → length words ≡ 10
+    → length (tenAt slot words values) ≡ length values
+length-ten slot words values h e =
     omega (
       arith,
-      length-append (take (10 * k) values) (words ++ drop (10 * k + 10) values),
-      length-append words (drop (10 * k + 10) values),
-      length-take-le (10 * k) values (omega arith),
-      length-drop (10 * k + 10) values,
+      length-append (take slot values) (words ++ drop (slot + 10) values),
+      length-append words (drop (slot + 10) values),
+      length-take-le slot values (omega arith),
+      length-drop (slot + 10) values,
     )
 
 ten-more : (k : ℕ) → 10 * k + 10 ≡ 10 * suc k
 ten-more k = omega arith
 
 ten-front : (d : Descriptor) (l : List ℕ) (k : ℕ) (old values : List ℕ) → values ≡ wholeTo d l k ++ drop (10 * k) old
-    → tenAt k (padded 10 (attributeList d k l (offsetOf d k))) values ≡ wholeTo d l (suc k) ++ drop (10 * suc k) old
+    → tenAt (10 * k) (padded 10 (attributeList d k l (offsetOf d k))) values ≡ wholeTo d l (suc k) ++ drop (10 * suc k) old
 unfolding wholeTo
 ten-front d l k old values e =
     let ten : List ℕ = padded 10 (attributeList d k l (offsetOf d k)) in
@@ -123,30 +140,40 @@ ten-front d l k old values e =
 
 module _ (d : Descriptor) (l : List ℕ) where
   -- attribute k is told
-  pub moves-ten : (k : ℕ) (values words : List ℕ) (at n r : ℕ) {values' : List ℕ} → k < 21 → length values ≡ 210 → at ≡ offsetOf d k
-      → words ≡ padded 10 (attributeList d k l at) → n ≡ sizeOf d k → r ≡ at + n → values' ≡ tenAt k words values
-      → Moves d l k (k + 1) values r values'
-  moves-ten k values words at n r {values'} h many e w s q v =
+  pub tells-ten : (k slot : ℕ) (values words : List ℕ) (at n r : ℕ) {values' : List ℕ} → slot + 10 ≤ length values → at ≡ offsetOf d k
+      → words ≡ padded 10 (attributeList d k l at) → n ≡ sizeOf d k → r ≡ at + n → values' ≡ tenAt slot words values
+      → Tells d k l slot values r values'
+  tells-ten k slot values words at n r {values'} h e w s q v =
       let w′ : words ≡ padded 10 (attributeList d k l (offsetOf d k)) = w ∙ ap (λ (x : ℕ). padded 10 (attributeList d k l x)) e in
-      let v′ : values' ≡ tenAt k (padded 10 (attributeList d k l (offsetOf d k))) values = v ∙ ap (λ (x : List ℕ). tenAt k x values) w′ in
+      let v′ : values' ≡ tenAt slot (padded 10 (attributeList d k l (offsetOf d k))) values =
+      v ∙ ap (λ (x : List ℕ). tenAt slot x values) w′ in
       record {
-        at-is = q ∙ sum-next d k at n e s;
-        many = ap (λ (x : List ℕ). length x) v′ ∙ length-ten k (padded 10 (attributeList d k l (offsetOf d k))) values h many
+        next-is = q ∙ sum-next d k at n e s;
+        many = ap (λ (x : List ℕ). length x) v′ ∙ length-ten slot (padded 10 (attributeList d k l (offsetOf d k))) values h
             (length-padded (attributeList d k l (offsetOf d k)));
-        told = λ old f. v′ ∙ rw (add-one k) (ten-front d l k old values f);
+        told = v′;
       }
 
+  -- to its place among all
+  pub moves-told : (k : ℕ) {values : List ℕ} {r : ℕ} {values' : List ℕ} → length values ≡ 210 → Tells d k l (10 * k) values r values'
+      → TellsFrom d l k (k + 1) values r values'
+  moves-told k {values} many t = record {
+    at-is = t .next-is;
+    many = t .many ∙ many;
+    told = λ old f. t .told ∙ rw (add-one k) (ten-front d l k old values f);
+  }
+
   -- and then others
-  pub moves-then : {i j k a b : ℕ} {u v w : List ℕ} → Moves d l i j u a v → Moves d l j k v b w → Moves d l i k u b w
+  pub moves-then : {i j k a b : ℕ} {u v w : List ℕ} → TellsFrom d l i j u a v → TellsFrom d l j k v b w → TellsFrom d l i k u b w
   moves-then f g = record { at-is = g .at-is; many = g .many; told = λ old e. g .told old (f .told old e) }
 
   -- none yet
-  pub moves-none : (values : List ℕ) → length values ≡ 210 → Moves d l 0 0 values 0 values
+  pub moves-none : (values : List ℕ) → length values ≡ 210 → TellsFrom d l 0 0 values 0 values
   unfolding offsetOf
   moves-none values h = record { at-is = refl; many = h; told = λ old e. e }
 
   -- all of them
-  pub moves-all : (values values' : List ℕ) (r : ℕ) → length values ≡ 210 → Moves d l 0 21 values r values' → values' ≡ wholeTo d l 21
+  pub moves-all : (values values' : List ℕ) (r : ℕ) → length values ≡ 210 → TellsFrom d l 0 21 values r values' → values' ≡ wholeTo d l 21
   unfolding wholeTo
   moves-all values values' r h m =
       m .told values refl ∙ ap (λ (x : List ℕ). wholeTo d l 21 ++ x) (drop-of-length-le values {i = 210} (le-of-eq h)) ∙ append-nil

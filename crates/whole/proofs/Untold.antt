@@ -1,24 +1,52 @@
 -- What one attribute's words are, by its mode: each way to tell it moves on to the next.
 use mathlib.Core.Path.{_≡_, refl, sym, ap, _∙_}
-use mathlib.Core.List.{List}
-use Prim.Native.Nat.{ℕ, _+_, _-_, _*_, _<_, _≤_}
-use native.Mathlib.Nat.{add-zero, mul-le-mul}
+use mathlib.Core.Bool.{true, false}
+use mathlib.Core.List.{List, [], _∷_, _++_, append-nil}
+use Prim.Native.Nat.{ℕ, zero, suc, _+_, _-_, _*_, _<_, _≤_}
+use native.Mathlib.Nat.{add-zero, mul-le-mul, le-of-eq}
 use native.Mathlib.Omega.{arith}
-use lib.ListN.{replicate, length}
+use lib.Dec.{lit≤}
+use lib.ListN.{replicate, length, take, drop-of-length-le}
 use borrow.Author.Tests.{lt-ltb}
 use Rattle.layout.specs.declared.Descriptor.{Descriptor}
 use Rattle.layout.specs.declared.Field.{Field}
-use Rattle.layout.specs.Fields.{modeOf}
-use Rattle.layout.specs.Sizes.{directOf, sizeOf, offsetOf}
+use Rattle.layout.specs.Fields.{modeOf, fieldOf}
+use Rattle.component.specs.Component.{widthOf}
+use Rattle.layout.specs.Sizes.{isColour, componentsOf, colourWidth, directOf, sizeOf, offsetOf}
 use Rattle.layout.proofs.Tests.{size-matrix, size-absent, size-direct, size-indexed}
-use Rattle.layout.proofs.Bounds.{mode-le, indices-le, size-small, offset-le}
+use Rattle.layout.proofs.Bounds.{mode-le, indices-le, indices-some, size-small, offset-le, room}
 use Rattle.vertex.specs.Attributes.{directList, indexList, attributeList}
 use Rattle.vertex.proofs.Lists.{attribute-absent, attribute-direct, attribute-indexed}
 use Rattle.encoding.specs.Told.{padded}
-use Rattle.whole.specs.Whole.{tenAt, matrixList, Untold, Moves}
-use Rattle.whole.proofs.Tens.{moves-ten}
+use Rattle.whole.specs.Inner.{tenAt, matrixList, Untold, Tells, TellsFrom}
+use Rattle.whole.proofs.Tens.{tells-ten, moves-told}
 
-module _ {d : Descriptor} {field : Field} {k at : ℕ} {values : List ℕ} (u : Untold d field k at values) where
+-- a colour has at least two bytes
+colour-some : (f : ℕ) → 1 ≤ colourWidth f
+colour-some zero = lit≤ tt
+colour-some (suc zero) = lit≤ tt
+colour-some (suc (suc zero)) = lit≤ tt
+colour-some (suc (suc (suc zero))) = lit≤ tt
+colour-some (suc (suc (suc (suc zero)))) = lit≤ tt
+colour-some (suc (suc (suc (suc (suc f))))) = lit≤ tt
+
+pub colour-room : (at k count f n most : ℕ) → isColour k ≡ true → n ≡ colourWidth f → at + directOf k count f ≤ most
+    → (1 ≤ n) × (at + n ≤ most)
+unfolding directOf
+colour-room at k count f n most o e h = rw e (colour-some f, rw o at h)
+
+-- components of a direct attribute that is no colour
+pub direct-many : (at k count f n most : ℕ) → isColour k ≡ false → n ≡ componentsOf k count → at + directOf k count f ≤ most
+    → at + n * widthOf f ≤ most
+unfolding directOf
+direct-many at k count f n most o e h = rw e (rw o at h)
+
+-- attribute k is to be told to its place among all
+pub untold : (k : ℕ) {d : Descriptor} {field : Field} {l : List ℕ} {at : ℕ} {values : List ℕ} → 9 ≤ k → k < 21 → field ≡ fieldOf d k
+    → at ≡ offsetOf d k → length l ≡ offsetOf d 21 → length values ≡ 210 → Untold d field k l at (10 * k) values
+untold k a b f e w m = record { field-is = f; least = a; most = b; at-is = e; whole = w; space = omega arith }
+
+module _ {d : Descriptor} {field : Field} {k : ℕ} {l : List ℕ} {at slot : ℕ} {values : List ℕ} (u : Untold d field k l at slot values) where
   mode-is : field .mode ≡ modeOf d k
   mode-is = ap (λ (f : Field). f .mode) (u .field-is)
 
@@ -44,39 +72,69 @@ module _ {d : Descriptor} {field : Field} {k at : ℕ} {values : List ℕ} (u : 
   pub direct-small : field .mode ≡ 1 → (n : ℕ) → n ≡ directOf k (field .count) (field .format) → n ≤ 36
   direct-small m n e = omega (arith, direct-size m n e, size-small d k)
 
-  module _ (l : List ℕ) {values' : List ℕ} where
-    pub absent-told : field .mode ≡ 0 → values' ≡ tenAt k (replicate 10 0) values → Moves d l k (k + 1) values at values'
+  -- and they lie within the vertex
+  pub direct-room : field .mode ≡ 1 → at + directOf k (field .count) (field .format) ≤ length l
+  direct-room m = omega (arith, direct-size m (directOf k (field .count) (field .format)) refl, room d k (u .most), u .at-is, u .whole)
+
+  -- and so do indices, of which there is at least one
+  pub indexed-room : (field .mode ≡ 0 → ⊥) → (field .mode ≡ 1 → ⊥) → at + field .indices * (field .mode - 1) ≤ length l
+  indexed-room z o =
+      let n : field .indices * (field .mode - 1) ≡ sizeOf d k =
+      ap (λ (f : Field). f .indices * (f .mode - 1)) (u .field-is)
+      ∙ sym (size-indexed d k (u .least) (λ e. z (mode-is ∙ e)) (λ e. o (mode-is ∙ e))) in
+      omega (arith, n, room d k (u .most), u .at-is, u .whole)
+
+  pub some-index : 1 ≤ field .indices
+  some-index = omega (arith, ap (λ (f : Field). f .indices) (u .field-is), indices-some d k)
+
+  module _ {values' : List ℕ} where
+    pub absent-told : field .mode ≡ 0 → values' ≡ tenAt slot (replicate 10 0) values → Tells d k l slot values at values'
     absent-told m v =
         let z : modeOf d k ≡ 0 = sym mode-is ∙ m in
-        moves-ten d l k values (replicate 10 0) at 0 at (u .most) (u .many) (u .at-is)
+        tells-ten d l k slot values (replicate 10 0) at 0 at (u .space) (u .at-is)
         (ap (λ (x : List ℕ). padded 10 x) (sym (attribute-absent d k l at z))) (sym (size-absent d k (u .least) z)) (sym (add-zero at)) v
 
     pub indexed-told : (words : List ℕ) → (field .mode ≡ 0 → ⊥) → (field .mode ≡ 1 → ⊥)
-        → words ≡ padded 10 (indexList l at (field .indices) (field .mode - 1)) → values' ≡ tenAt k words values
-        → Moves d l k (k + 1) values (at + field .indices * (field .mode - 1)) values'
+        → words ≡ padded 10 (indexList l at (field .indices) (field .mode - 1)) → values' ≡ tenAt slot words values
+        → Tells d k l slot values (at + field .indices * (field .mode - 1)) values'
     indexed-told words z o w v =
         let z′ : modeOf d k ≡ 0 → ⊥ = λ e. z (mode-is ∙ e) in
         let o′ : modeOf d k ≡ 1 → ⊥ = λ e. o (mode-is ∙ e) in
-        moves-ten d l k values words at (field .indices * (field .mode - 1)) _ (u .most) (u .many) (u .at-is)
+        tells-ten d l k slot values words at (field .indices * (field .mode - 1)) _ (u .space) (u .at-is)
         (w ∙ ap (λ (f : Field). padded 10 (indexList l at (f .indices) (f .mode - 1))) (u .field-is)
         ∙ ap (λ (x : List ℕ). padded 10 x) (sym (attribute-indexed d k l at z′ (u .least) o′)))
         (ap (λ (f : Field). f .indices * (f .mode - 1)) (u .field-is) ∙ sym (size-indexed d k (u .least) z′ o′)) refl v
 
-    pub direct-told : (words : List ℕ) (n : ℕ) → field .mode ≡ 1
-        → words ≡ padded 10 (directList l at k (field .count) (field .format) (field .fraction)) → n ≡ directOf k (field .count) (field
-        .format)
-        → values' ≡ tenAt k words values → Moves d l k (k + 1) values (at + n) values'
-    direct-told words n m w e v =
-        moves-ten d l k values words at n _ (u .most) (u .many) (u .at-is)
-        (w ∙ ap (λ (f : Field). padded 10 (directList l at k (f .count) (f .format) (f .fraction))) (u .field-is)
+    pub direct-told : (n : ℕ) → field .mode ≡ 1 → n ≡ directOf k (field .count) (field .format)
+        → values' ≡ tenAt slot (padded 10 (directList l at k (field .count) (field .format) (field .fraction))) values
+        → Tells d k l slot values (at + n) values'
+    direct-told n m e v =
+        tells-ten d l k slot values (padded 10 (directList l at k (field .count) (field .format) (field .fraction))) at n _ (u .space)
+        (u .at-is)
+        (ap (λ (f : Field). padded 10 (directList l at k (f .count) (f .format) (f .fraction))) (u .field-is)
         ∙ ap (λ (x : List ℕ). padded 10 x) (sym (attribute-direct d k l at (u .least) (sym mode-is ∙ m)))) (direct-size m n e) refl v
 
--- a matrix, by its bit
-pub matrix-told : (d : Descriptor) (l : List ℕ) (k : ℕ) (values words : List ℕ) (at bit : ℕ) {values' : List ℕ} → k < 9 → length values ≡
-    210
-    → at ≡ offsetOf d k → bit ≡ modeOf d k → words ≡ padded 10 (matrixList bit l at) → values' ≡ tenAt k words values
-    → Moves d l k (k + 1) values (at + bit) values'
+-- a matrix by its bit
+pub matrix-list : (d : Descriptor) (l : List ℕ) (k at bit : ℕ) {words : List ℕ} → k < 9 → at ≡ offsetOf d k → bit ≡ modeOf d k
+    → words ≡ padded 10 (matrixList bit l at) → words ≡ padded 10 (attributeList d k l (offsetOf d k))
 unfolding attributeList
+matrix-list d l k at bit h e b w = w ∙ rw (b, e, lt-ltb k 9 h)
+
+-- and told
+pub matrix-told : (d : Descriptor) (l : List ℕ) (k : ℕ) (values words : List ℕ) (at bit : ℕ) {values' : List ℕ} → k < 9
+    → length values ≡ 210 → at ≡ offsetOf d k → bit ≡ modeOf d k → words ≡ padded 10 (matrixList bit l at)
+    → values' ≡ tenAt (10 * k) words values → TellsFrom d l k (k + 1) values (at + bit) values'
 matrix-told d l k values words at bit h many e b w v =
-    moves-ten d l k values words at bit _ (omega arith) many e
-    (w ∙ rw (b, lt-ltb k 9 h)) (b ∙ sym (size-matrix d k h)) refl v
+    moves-told d l k many
+    (tells-ten d l k (10 * k) values words at bit _ (omega arith) e
+    (matrix-list d l k at bit h e b w ∙ ap (λ (x : ℕ). padded 10 (attributeList d k l x)) (sym e)) (b ∙ sym (size-matrix d k h)) refl v)
+
+-- ten words in all
+pub ten-only : (words values : List ℕ) → length values ≡ 10 → tenAt 0 words values ≡ words
+ten-only words values h =
+    ap (λ (x : List ℕ). take 0 values ++ (words ++ x)) (drop-of-length-le values {i = 10} (le-of-eq h))
+    ∙ ap (λ (x : List ℕ). take 0 values ++ x) (append-nil words) ∙ none values
+  where
+    none : (v : List ℕ) → take 0 v ++ words ≡ words
+    none [] = refl
+    none (x ∷ v) = refl

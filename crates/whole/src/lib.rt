@@ -1,24 +1,27 @@
-// A whole vertex as words: ten for each of its 21 attributes in order, the kind and nine values, as one attribute is told.
+// Attributes of a vertex as words, ten for each, the kind and nine values: one alone, or all 21 in order.
+mod components;
+
 use layout::Descriptor;
 use layout::Field;
 use layout::LayoutAnswer;
 use refusal::Reason;
 ghost use mathlib.Core.Path.{_≡_};
-ghost use Prim.Native.Nat.{_+_, _<_, _≤_};
+ghost use Prim.Native.Nat.{_+_, _*_, _<_, _≤_};
 ghost use lib.ListN.{length};
-ghost use lib.Ieee.{binary32, toBits};
-ghost use Rattle.component.specs.Component.{componentOf};
-ghost use Rattle.layout.specs.Sizes.{directOf, offsetOf};
-ghost use Rattle.vertex.specs.Attributes.{bitsOf, componentList, directList, indexList};
+ghost use Rattle.component.specs.Component.{widthOf};
+ghost use Rattle.layout.specs.Fields.{fieldOf};
+ghost use Rattle.layout.specs.Sizes.{directOf, sizeOf, offsetOf};
+ghost use Rattle.vertex.specs.Attributes.{directList, indexList, attributeList};
 ghost use Rattle.encoding.specs.Told.{padded};
-ghost use Rattle.whole.specs.Whole.{DecodesAll, tenAt, matrixList, Untold, Moves};
+ghost use Rattle.whole.specs.Whole.{DecodesOne, DecodesAll};
+ghost use Rattle.whole.specs.Inner.{tenAt, matrixList, fewList, fewKind};
+ghost use Rattle.whole.specs.Inner.{Untold, Tells, Alone, TellsFrom};
 
-// Puts ten words at the place of attribute k.
-fn put(values: &mut [u32], k: usize, words: [u32; 10])
-    requires { ⌜ (k < 21) × (length (now values) ≡ 210) ⌝ }
-    ensures { λ _. ⌜ now (values .exit) ≡ tenAt k words (now (values .entry)) ⌝ }
+// Puts ten words from a place on.
+fn put(values: &mut [u32], at: usize, words: [u32; 10])
+    requires { ⌜ at + 10 ≤ length (now values) ⌝ }
+    ensures { λ _. ⌜ now (values .exit) ≡ tenAt at words (now (values .entry)) ⌝ }
 {
-    let at = 10 * k;
     let mut i: usize = 0;
     while i < 10 {
         values[at + i] = words[i];
@@ -26,110 +29,73 @@ fn put(values: &mut [u32], k: usize, words: [u32; 10])
     }
 }
 
-// The bits of a component in a format.
-fn single(format: u32, raw: u32, fraction: u32) -> u32
-    ensures { λ r. ⌜ r ≡ toBits binary32 (componentOf format raw fraction) ⌝ }
-{
-    encoding::bits(component::decode_component(format, raw, fraction))
-}
-
-// The bits of component i of those that start at a place.
-fn component_bits(vertex: &[u8], at: u32, format: u32, fraction: u32, i: u32) -> u32
-    requires { ⌜ (at < 256) × (i < 9) ⌝ }
-    ensures { λ r. ⌜ r ≡ bitsOf (now (vertex .entry)) at format fraction i ⌝ }
-{
-    match format {
-        0 => single(0, octets::read(vertex, at + i * 1, 1), fraction),
-        1 => single(1, octets::read(vertex, at + i * 1, 1), fraction),
-        2 => single(2, octets::half_at(vertex, at + i * 2) as u32, fraction),
-        3 => single(3, octets::half_at(vertex, at + i * 2) as u32, fraction),
-        _ => single(format, octets::word_at(vertex, at + i * 4), fraction),
-    }
-}
-
-// A position of two or three components.
-fn position_words(vertex: &[u8], at: u32, count: u32, format: u32, fraction: u32) -> [u32; 10]
-    requires { ⌜ at < 256 ⌝ }
-    ensures { λ r. ⌜ r ≡ padded 10 (componentList (now (vertex .entry)) at 9 count format fraction) ⌝ }
-{
-    let x = component_bits(vertex, at, format, fraction, 0);
-    let y = component_bits(vertex, at, format, fraction, 1);
-    if count % 2 == 0 {
-        return [5, x, y, 0, 0, 0, 0, 0, 0, 0];
-    }
-    let z = component_bits(vertex, at, format, fraction, 2);
-    [5, x, y, z, 0, 0, 0, 0, 0, 0]
-}
-
-// A normal of three components, or of nine.
-fn normal_words(vertex: &[u8], at: u32, count: u32, format: u32, fraction: u32) -> [u32; 10]
-    requires { ⌜ at < 256 ⌝ }
-    ensures { λ r. ⌜ r ≡ padded 10 (componentList (now (vertex .entry)) at 10 count format fraction) ⌝ }
-{
-    let a = component_bits(vertex, at, format, fraction, 0);
-    let b = component_bits(vertex, at, format, fraction, 1);
-    let c = component_bits(vertex, at, format, fraction, 2);
-    if count % 2 == 0 {
-        return [7, a, b, c, 0, 0, 0, 0, 0, 0];
-    }
-    let d = component_bits(vertex, at, format, fraction, 3);
-    let e = component_bits(vertex, at, format, fraction, 4);
-    let f = component_bits(vertex, at, format, fraction, 5);
-    let g = component_bits(vertex, at, format, fraction, 6);
-    let h = component_bits(vertex, at, format, fraction, 7);
-    let i = component_bits(vertex, at, format, fraction, 8);
-    [8, a, b, c, d, e, f, g, h, i]
-}
-
-// A texture of one or two components.
-fn texture_words(vertex: &[u8], at: u32, count: u32, format: u32, fraction: u32) -> [u32; 10]
-    requires { ⌜ at < 256 ⌝ }
-    ensures { λ r. ⌜ r ≡ padded 10 (componentList (now (vertex .entry)) at 13 count format fraction) ⌝ }
-{
-    let x = component_bits(vertex, at, format, fraction, 0);
-    if count % 2 == 0 {
-        return [6, x, 0, 0, 0, 0, 0, 0, 0, 0];
-    }
-    let y = component_bits(vertex, at, format, fraction, 1);
-    [6, x, y, 0, 0, 0, 0, 0, 0, 0]
-}
-
-// A direct attribute.
-fn direct_words(
+// Puts a kind and up to three components from a slot on.
+fn put_few(
+    values: &mut [u32],
+    slot: usize,
+    kind: u32,
     vertex: &[u8],
     at: u32,
-    k: usize,
-    count: u32,
     format: u32,
     fraction: u32,
-) -> [u32; 10]
-    requires { ⌜ at < 256 ⌝ }
-    ensures { λ r. ⌜ r ≡ padded 10 (directList (now (vertex .entry)) at k count format fraction) ⌝ }
+    n: u32,
+)
+    requires { ⌜ (slot + 10 ≤ length (now values)) × (at < 256) × (1 ≤ n) × (at + n * widthOf format ≤ length (now vertex)) ⌝ }
+    ensures { λ _. ⌜ now (values .exit)
+        ≡ tenAt slot (padded 10 (fewList kind (now (vertex .entry)) at format fraction n)) (now (values .entry)) ⌝ }
 {
+    let a = components::up_to_three(vertex, at, format, fraction, n);
+    put(values, slot, [kind, a.x, a.y, a.z, 0, 0, 0, 0, 0, 0]);
+}
+
+// The kind of a position, of a normal of three components, or of a texture.
+fn kind(k: usize) -> u32
+    ensures { λ r. ⌜ r ≡ fewKind k ⌝ }
+{
+    match k {
+        9 => 5,
+        10 => 7,
+        _ => 6,
+    }
+}
+
+// Puts the words of a direct attribute from a slot on.
+fn put_direct(k: usize, field: Field, vertex: &[u8], at: u32, slot: usize, values: &mut [u32])
+    requires { ⌜ (at < 256) × (at + directOf k (field .count) (field .format) ≤ length (now vertex)) × (slot + 10 ≤ length (now values)) ⌝ }
+    ensures { λ _. ⌜ now (values .exit)
+        ≡ tenAt slot (padded 10 (directList (now (vertex .entry)) at k (field .count) (field .format) (field .fraction)))
+        (now (values .entry)) ⌝ }
+{
+    let format = field.format;
+    let fraction = field.fraction;
     if layout::is_colour(k) {
-        let n = octets::read(vertex, at, layout::colour_width(format));
-        return [4, n, 0, 0, 0, 0, 0, 0, 0, 0];
+        let n = components::number_in(vertex, at, layout::colour_width(format));
+        put(values, slot, [4, n, 0, 0, 0, 0, 0, 0, 0, 0]);
+        return;
     }
-    if k == 9 {
-        return position_words(vertex, at, count, format, fraction);
+    let n = layout::components(k, field.count);
+    if n == 9 {
+        put(
+            values,
+            slot,
+            components::frame_words(vertex, at, format, fraction),
+        );
+        return;
     }
-    if k == 10 {
-        return normal_words(vertex, at, count, format, fraction);
-    }
-    texture_words(vertex, at, count, format, fraction)
+    put_few(values, slot, kind(k), vertex, at, format, fraction, n);
 }
 
 // One index of n bytes, or three.
 fn index_words(vertex: &[u8], at: u32, times: u32, n: u32) -> [u32; 10]
-    requires { ⌜ (at < 256) × (n ≤ 2) ⌝ }
+    requires { ⌜ (at < 256) × (1 ≤ n) × (n ≤ 2) × (1 ≤ times) × (at + times * n ≤ length (now vertex)) ⌝ }
     ensures { λ r. ⌜ r ≡ padded 10 (indexList (now (vertex .entry)) at times n) ⌝ }
 {
-    let x = octets::read(vertex, at, n);
+    let x = components::number_in(vertex, at, n);
     if times != 3 {
         return [2, x, 0, 0, 0, 0, 0, 0, 0, 0];
     }
-    let y = octets::read(vertex, at + n, n);
-    let z = octets::read(vertex, at + 2 * n, n);
+    let y = components::number_in(vertex, at + n, n);
+    let z = components::number_in(vertex, at + 2 * n, n);
     [3, x, y, z, 0, 0, 0, 0, 0, 0]
 }
 
@@ -143,30 +109,63 @@ fn direct_bytes(k: usize, count: u32, format: u32) -> u32
     layout::components(k, count) * component::width(format)
 }
 
-// Tells attribute k, which is no matrix, from its place in the vertex on; the next starts at the place returned.
-fn tell(d: Descriptor, field: Field, k: usize, vertex: &[u8], at: u32, values: &mut [u32]) -> u32
-    requires { ⌜ Untold d field k at (now values) ⌝ }
-    ensures { λ r. ⌜ Moves d (now (vertex .entry)) k (k + 1) (now (values .entry)) r (now (values .exit)) ⌝ }
+// Puts attribute k, which is no matrix, from a slot on.
+fn put_any(
+    d: Descriptor,
+    field: Field,
+    k: usize,
+    vertex: &[u8],
+    at: u32,
+    slot: usize,
+    values: &mut [u32],
+)
+    requires { ⌜ Untold d field k (now vertex) at slot (now values) ⌝ }
+    ensures { λ _. ⌜ now (values .exit)
+        ≡ tenAt slot (padded 10 (attributeList d k (now (vertex .entry)) (offsetOf d k))) (now (values .entry)) ⌝ }
 {
     let mode = field.mode;
     let indices = field.indices;
-    let count = field.count;
-    let format = field.format;
-    let fraction = field.fraction;
     if mode == 0 {
-        put(values, k, [0u32; 10]);
-        return at;
+        put(values, slot, [0u32; 10]);
+        return;
     }
     if mode != 1 {
-        put(values, k, index_words(vertex, at, indices, mode - 1));
-        return at + indices * (mode - 1);
+        put(values, slot, index_words(vertex, at, indices, mode - 1));
+        return;
     }
-    put(
-        values,
-        k,
-        direct_words(vertex, at, k, count, format, fraction),
-    );
-    at + direct_bytes(k, count, format)
+    put_direct(k, field, vertex, at, slot, values);
+}
+
+// The bytes of attribute k, which is no matrix.
+fn bytes_of(d: Descriptor, field: Field, k: usize) -> u32
+    requires { ⌜ (field ≡ fieldOf d k) × (9 ≤ k) ⌝ }
+    ensures { λ r. ⌜ r ≡ sizeOf d k ⌝ }
+{
+    let mode = field.mode;
+    if mode == 0 {
+        return 0;
+    }
+    if mode != 1 {
+        return field.indices * (mode - 1);
+    }
+    direct_bytes(k, field.count, field.format)
+}
+
+// Tells attribute k, which is no matrix, from a slot on; the next starts at the place returned.
+fn tell(
+    d: Descriptor,
+    field: Field,
+    k: usize,
+    vertex: &[u8],
+    at: u32,
+    slot: usize,
+    values: &mut [u32],
+) -> u32
+    requires { ⌜ Untold d field k (now vertex) at slot (now values) ⌝ }
+    ensures { λ r. ⌜ Tells d k (now (vertex .entry)) slot (now (values .entry)) r (now (values .exit)) ⌝ }
+{
+    put_any(d, field, k, vertex, at, slot, values);
+    at + bytes_of(d, field, k)
 }
 
 // A matrix, which is one byte where its bit is set.
@@ -182,14 +181,14 @@ fn matrix_words(bit: u32, vertex: &[u8], at: u32) -> [u32; 10]
 // Tells the nine matrices.
 fn tell_matrices(d: Descriptor, vertex: &[u8], values: &mut [u32]) -> u32
     requires { ⌜ length (now values) ≡ 210 ⌝ }
-    ensures { λ r. ⌜ Moves d (now (vertex .entry)) 0 9 (now (values .entry)) r (now (values .exit)) ⌝ }
+    ensures { λ r. ⌜ TellsFrom d (now (vertex .entry)) 0 9 (now (values .entry)) r (now (values .exit)) ⌝ }
 {
     let vcd = d.vcd0;
     let mut at: u32 = 0;
     let mut k: usize = 0;
     while k < 9 {
         let bit = (vcd >> (k as u32)) % 2;
-        put(values, k, matrix_words(bit, vertex, at));
+        put(values, 10 * k, matrix_words(bit, vertex, at));
         at += bit;
         k += 1;
     }
@@ -198,28 +197,53 @@ fn tell_matrices(d: Descriptor, vertex: &[u8], values: &mut [u32]) -> u32
 
 // Tells the position, the normal, the colours and the first texture.
 fn tell_fore(d: Descriptor, vertex: &[u8], at: u32, values: &mut [u32]) -> u32
-    requires { ⌜ (at ≡ offsetOf d 9) × (length (now values) ≡ 210) ⌝ }
-    ensures { λ r. ⌜ Moves d (now (vertex .entry)) 9 14 (now (values .entry)) r (now (values .exit)) ⌝ }
+    requires { ⌜ (length (now vertex) ≡ offsetOf d 21) × (at ≡ offsetOf d 9) × (length (now values) ≡ 210) ⌝ }
+    ensures { λ r. ⌜ TellsFrom d (now (vertex .entry)) 9 14 (now (values .entry)) r (now (values .exit)) ⌝ }
 {
-    let a = tell(d, layout::read_field(d, 9), 9, vertex, at, values);
-    let b = tell(d, layout::read_field(d, 10), 10, vertex, a, values);
-    let c = tell(d, layout::read_field(d, 11), 11, vertex, b, values);
-    let e = tell(d, layout::read_field(d, 12), 12, vertex, c, values);
-    tell(d, layout::read_field(d, 13), 13, vertex, e, values)
+    let a = tell(d, layout::read_field(d, 9), 9, vertex, at, 90, values);
+    let b = tell(d, layout::read_field(d, 10), 10, vertex, a, 100, values);
+    let c = tell(d, layout::read_field(d, 11), 11, vertex, b, 110, values);
+    let e = tell(d, layout::read_field(d, 12), 12, vertex, c, 120, values);
+    tell(d, layout::read_field(d, 13), 13, vertex, e, 130, values)
 }
 
 // Tells the textures past the first.
 fn tell_textures(d: Descriptor, vertex: &[u8], at: u32, values: &mut [u32]) -> u32
-    requires { ⌜ (at ≡ offsetOf d 14) × (length (now values) ≡ 210) ⌝ }
-    ensures { λ r. ⌜ Moves d (now (vertex .entry)) 14 21 (now (values .entry)) r (now (values .exit)) ⌝ }
+    requires { ⌜ (length (now vertex) ≡ offsetOf d 21) × (at ≡ offsetOf d 14) × (length (now values) ≡ 210) ⌝ }
+    ensures { λ r. ⌜ TellsFrom d (now (vertex .entry)) 14 21 (now (values .entry)) r (now (values .exit)) ⌝ }
 {
-    let a = tell(d, layout::read_field(d, 14), 14, vertex, at, values);
-    let b = tell(d, layout::read_field(d, 15), 15, vertex, a, values);
-    let c = tell(d, layout::read_field(d, 16), 16, vertex, b, values);
-    let e = tell(d, layout::read_field(d, 17), 17, vertex, c, values);
-    let f = tell(d, layout::read_field(d, 18), 18, vertex, e, values);
-    let g = tell(d, layout::read_field(d, 19), 19, vertex, f, values);
-    tell(d, layout::read_field(d, 20), 20, vertex, g, values)
+    let a = tell(d, layout::read_field(d, 14), 14, vertex, at, 140, values);
+    let b = tell(d, layout::read_field(d, 15), 15, vertex, a, 150, values);
+    let c = tell(d, layout::read_field(d, 16), 16, vertex, b, 160, values);
+    let e = tell(d, layout::read_field(d, 17), 17, vertex, c, 170, values);
+    let f = tell(d, layout::read_field(d, 18), 18, vertex, e, 180, values);
+    let g = tell(d, layout::read_field(d, 19), 19, vertex, f, 190, values);
+    tell(d, layout::read_field(d, 20), 20, vertex, g, 200, values)
+}
+
+// Tells attribute k alone.
+fn tell_any(d: Descriptor, k: usize, vertex: &[u8], at: u32, values: &mut [u32])
+    requires { ⌜ Alone d k (now vertex) at (now values) ⌝ }
+    ensures { λ _. ⌜ now (values .exit) ≡ padded 10 (attributeList d k (now (vertex .entry)) (offsetOf d k)) ⌝ }
+{
+    if k < 9 {
+        let bit = (d.vcd0 >> (k as u32)) % 2;
+        put(values, 0, matrix_words(bit, vertex, at));
+        return;
+    }
+    put_any(d, layout::read_field(d, k), k, vertex, at, 0, values);
+}
+
+// The same; positions, which are asked for most, have a way of their own, with constant places.
+fn tell_one(d: Descriptor, k: usize, vertex: &[u8], at: u32, values: &mut [u32])
+    requires { ⌜ Alone d k (now vertex) at (now values) ⌝ }
+    ensures { λ _. ⌜ now (values .exit) ≡ padded 10 (attributeList d k (now (vertex .entry)) (offsetOf d k)) ⌝ }
+{
+    if k == 9 {
+        put_any(d, layout::read_field(d, 9), 9, vertex, at, 0, values);
+        return;
+    }
+    tell_any(d, k, vertex, at, values);
 }
 
 // Decodes a whole vertex into words, ten for each attribute, or says why it is refused: 9, 10, then 19 by its length.
@@ -238,5 +262,31 @@ pub fn decode_all(descriptor: Descriptor, vertex: &[u8], values: &mut [u32; 210]
     let a = tell_matrices(descriptor, vertex, values);
     let b = tell_fore(descriptor, vertex, a, values);
     tell_textures(descriptor, vertex, b, values);
+    LayoutAnswer::Accepted
+}
+
+// Decodes one attribute of a vertex into ten words, or says why it is refused: 9, 10, then 19 by its number or the length.
+pub fn decode_one(
+    descriptor: Descriptor,
+    k: usize,
+    vertex: &[u8],
+    values: &mut [u32; 10],
+) -> LayoutAnswer
+    ensures { λ r. ⌜ DecodesOne descriptor k (now (vertex .entry)) (now (values .entry)) r (now (values .exit)) ⌝ }
+{
+    let spot = layout::find(descriptor, k);
+    let bytes = spot.length;
+    let at = spot.offset;
+    let answer = spot.answer;
+    if let LayoutAnswer::Refused(reason) = answer {
+        return LayoutAnswer::Refused(reason);
+    }
+    if 20 < k {
+        return LayoutAnswer::Refused(Reason::NotOfLayout);
+    }
+    if vertex.len() != bytes as usize {
+        return LayoutAnswer::Refused(Reason::NotOfLayout);
+    }
+    tell_one(descriptor, k, vertex, at, values);
     LayoutAnswer::Accepted
 }

@@ -8,7 +8,7 @@ use borrow.Author.Needs.{needs}
 use Rattle.layout.specs.declared.Descriptor.{Descriptor}
 use Rattle.layout.specs.Fields.{modeOf}
 use Rattle.layout.proofs.Modes.{matrix-mode}
-use Rattle.whole.specs.Whole.{Moves}
+use Rattle.whole.specs.Inner.{TellsFrom}
 use Rattle.whole.proofs.Tens.{moves-none, moves-then}
 use Rattle.whole.proofs.Untold.{matrix-told}
 use Rattle.whole.proofs.tell_matrices.Statement.{statement}
@@ -19,7 +19,7 @@ record Turn (l old : List ℕ) (vcd : ℕ) (values : List ℕ) (at k : ℕ) : Ty
   pub below : k ≤ 9
   pub least : at ≤ k
   pub many : length values ≡ 210
-  pub moved : (d : Descriptor) → d .vcd0 ≡ vcd → Moves d l 0 k old at values
+  pub moved : (d : Descriptor) → d .vcd0 ≡ vcd → TellsFrom d l 0 k old at values
 
 -- a bit is the mode of its matrix
 bit-is : (d : Descriptor) (vcd k : ℕ) → d .vcd0 ≡ vcd → k < 9 → vcd / 2 ^ k % 2 ≡ modeOf d k
@@ -48,13 +48,16 @@ cast-bit c = search needs
 shr-bit : tie.Need-shr-bit Inv-loop μ-loop
 shr-bit c = search needs
 
+mul-put : tie.Need-mul-put Inv-loop μ-loop
+mul-put c = search needs
+
 matrix-words-requires : tie.Need-matrix-words-requires Inv-loop μ-loop
 matrix-words-requires c κs = search needs
 
 put-requires : tie.Need-put-requires Inv-loop μ-loop
 put-requires c κs =
     let lp = c .before .before .before .loop in
-    (omega (arith, c .before .before .loop-test .taken), lp .inv .many)
+    omega (arith, c .before .before .loop-test .taken, lp .inv .many)
 
 add-at : tie.Need-add-at Inv-loop μ-loop
 add-at c = search needs
@@ -72,7 +75,7 @@ loop-again c =
     let l = s .args .vertex .now in
     let vcd = s .args .d .vcd0 in
     let h : lp .k < 9 = c .before .before .before .before .before .loop-test .taken in
-    let one : (d : Descriptor) → d .vcd0 ≡ vcd → Moves d l (lp .k) (lp .k + 1) (lp .values) (lp .at + vcd / 2 ^ lp .k % 2) (c .before
+    let one : (d : Descriptor) → d .vcd0 ≡ vcd → TellsFrom d l (lp .k) (lp .k + 1) (lp .values) (lp .at + vcd / 2 ^ lp .k % 2) (c .before
     .before .put .last .0) =
     λ d e. matrix-told d l (lp .k) (lp .values) (c .before .before .before .matrix-words .result) (lp .at) (vcd / 2 ^ lp .k % 2) h (lp
     .inv .many)
@@ -93,7 +96,7 @@ returns c =
     let lp = c .before .loop in
     let s = c .before .before .before .before in
     let e : lp .k ≡ 9 = omega arith in
-    subst (λ (n : ℕ). Moves (s .args .d) (s .args .vertex .now) 0 n (s .args .values .now) (lp .at) (lp .values)) e (lp .inv .moved (s
+    subst (λ (n : ℕ). TellsFrom (s .args .d) (s .args .vertex .now) 0 n (s .args .values .now) (lp .at) (lp .values)) e (lp .inv .moved (s
     .args .d) refl)
 
 pub tell-matrices-spec : {M : Type 1} → statement M
@@ -105,6 +108,7 @@ tell-matrices-spec =
     loop-holds
     cast-bit
     shr-bit
+    mul-put
     matrix-words-requires
     put-requires
     add-at

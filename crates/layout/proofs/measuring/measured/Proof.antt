@@ -6,17 +6,14 @@ use borrow.Author.Needs.{needs}
 use Rattle.layout.proofs.measuring.measured.Statement.{statement}
 use Rattle.layout.proofs.measuring.measured.Tie as tie
 
-total-requires : tie.Need-total-requires
-total-requires c κs = search needs
-
 length-unless-requires : tie.Need-length-unless-requires
 length-unless-requires c κs = search needs
 
 returns : tie.Need-returns
 unfolding modeOf bitsAt modes
 returns c =
-    let s = c .before .before .before in
-    measured (s .args .d) _ _ _ _ refl (s .pre .1 .unknown-is) (c .before .total .ensures) (c .length-unless .ensures)
+    let s = c .before .before in
+    measured (s .args .d) _ _ _ _ refl (s .pre .0 .unknown-is) (s .pre .1) (c .length-unless .ensures)
 
 pub measured-spec : {M : Type 1} → statement M
-measured-spec = tie.close (tie.spec total-requires length-unless-requires returns)
+measured-spec = tie.close (tie.spec length-unless-requires returns)

@@ -72,20 +72,21 @@ add-sum-2 c =
 returns : tie.Need-returns
 returns c =
     let s = c .before .before .before .before .before .before .before .before .before in
-    omega (arith, all-of s .at21, none-set (s .args .d) (c .if1 .taken))
+    let z = none-set (s .args .d) (c .if1 .taken) in
+    record { bytes-are = omega (arith, all-of s .at21, z); matrices-are = sym z }
 
 matrices-requires : tie.Need-matrices-requires
 matrices-requires c κs = search needs
 
-add-result : tie.Need-add-result
-add-result c =
+add-all : tie.Need-add-all
+add-all c =
     let c10 = c .before .before .before .before .before .before .before .before .before .before in
     omega (arith, all-of (c10) .at21, offset-le (c10 .args .d) 21 (lit< tt), c .matrices .ensures)
 
 returns-2 : tie.Need-returns-2
 returns-2 c =
     let c10 = c .before .before .before .before .before .before .before .before .before .before in
-    omega (arith, all-of (c10) .at21, c .matrices .ensures)
+    record { bytes-are = omega (arith, all-of (c10) .at21, c .matrices .ensures); matrices-are = c .matrices .ensures }
 
 pub total-spec : {M : Type 1} → statement M
 total-spec =
@@ -104,5 +105,5 @@ total-spec =
     add-sum-2
     returns
     matrices-requires
-    add-result
+    add-all
     returns-2)

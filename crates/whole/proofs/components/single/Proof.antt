@@ -2,8 +2,8 @@
 use mathlib.Core.Path.{ap, _∙_}
 use lib.Ieee.{Float, binary32, toBits}
 use borrow.Author.Needs.{needs}
-use Rattle.whole.proofs.single.Statement.{statement}
-use Rattle.whole.proofs.single.Tie as tie
+use Rattle.whole.proofs.components.single.Statement.{statement}
+use Rattle.whole.proofs.components.single.Tie as tie
 
 decode-component-requires : tie.Need-decode-component-requires
 decode-component-requires c κs = search needs
