@@ -180,7 +180,7 @@ module _ {bytes : List ℕ} {from p f left size : ℕ} {buffer : List ℕ} {most
 -- ---- a draw that is open
 
 -- a format counts modulo 8
-size-modulo : (cp : List ℕ) (f : ℕ) → vertexBytes cp (f % 8) ≡ vertexBytes cp f
+pub size-modulo : (cp : List ℕ) (f : ℕ) → vertexBytes cp (f % 8) ≡ vertexBytes cp f
 unfolding descriptorOf
 size-modulo cp f = let e : f % 8 % 8 ≡ f % 8 = omega arith in rw e
 

@@ -6,11 +6,13 @@ use mathlib.Core.List.{List}
 use Prim.Native.Nat.{ℕ, _*_, _<_, _≤_}
 use lib.ListN.{length, getD, take, drop}
 use Rattle.command.specs.declared.Draw.{Draw}
+use Rattle.command.specs.declared.Draw.the-variants.{Open}
 use Rattle.command.specs.Look.{vertexBytes}
 use Rattle.command.specs.Places.{cpAccepted}
 use Rattle.effect.specs.Effect.{loadedCp, copied, openedBy}
 use Rattle.walk.specs.Flat.{Core, coreOf}
 use Rattle.walk.specs.Moves.{Moves, shut}
+use Rattle.bulk.specs.Size.{sizeTold}
 
 -- sizes of vertices that are known, 0 where not: of the eight formats
 pub record Known (cp sizes : List ℕ) : Type 0 where
@@ -48,6 +50,16 @@ pub record MovesVertices (bytes : List ℕ) (from primitive format left size : �
     (buffer' : List ℕ) : Type 0 where
   pub any : (cp bp xf : List ℕ) → size ≡ vertexBytes cp format
       → Moves bytes from (coreOf cp bp (openedBy primitive format left) xf buffer) most units to (coreOf cp bp draw' xf buffer')
+
+-- the draw that vertices of so many bytes leave, and that many told
+pub record Leaves (primitive format size : ℕ) (draw' : Draw) (size' : ℕ) : Type 0 where
+  pub left : ℕ
+  pub draw-is : draw' ≡ openedBy primitive format left
+  pub size-is : size' ≡ size
+
+-- the bytes of a vertex told of a draw that is open; of a closed one nothing is said
+pub record VertexSize (cp : List ℕ) (draw : Draw) (size : ℕ) : Type 0 where
+  pub told : (primitive format left : ℕ) → draw ≡ Open primitive format left → size ≡ sizeTold cp (Open primitive format left)
 
 -- vertices of the draw that is open
 pub record MovesOpen (bytes cp : List ℕ) (draw : Draw) (buffer : List ℕ) (most units to : ℕ) (draw' : Draw)

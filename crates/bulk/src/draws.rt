@@ -5,7 +5,7 @@ use command::Draw;
 ghost use mathlib.Core.Path.{_≡_};
 ghost use Prim.Native.Nat.{_+_, _-_, _*_, _<_, _≤_, min};
 ghost use lib.ListN.{length, getD};
-ghost use Rattle.bulk.specs.Inner.{Known, Sized, Fits, copiedAt, MovesVertices, MovesOpen, MovesDraw};
+ghost use Rattle.bulk.specs.Inner.{Known, Sized, Fits, copiedAt, Leaves, VertexSize, MovesVertices, MovesOpen, MovesDraw};
 
 // A byte as a number.
 fn wide(x: u8) -> u32
@@ -72,8 +72,7 @@ fn take_vertices(
 ) -> Many
     requires { ⌜ (from ≤ length (now bytes)) × ((1 ≤ size) × (size ≤ 129)) ⌝ }
     ensures { λ r. ⌜ MovesVertices (now (bytes .entry)) from primitive format left size (now (buffer .entry)) most (r .units) (r .at)
-        (r .draw)
-        (now (buffer .exit)) ⌝ }
+        (r .draw) (now (buffer .exit)) × Leaves primitive format size (r .draw) (r .size) ⌝ }
 {
     let n = whole(bytes.len() - from, size, left as usize, most as usize);
     let draw = effect::draw_of(primitive, format, left - n as u16);
@@ -82,6 +81,7 @@ fn take_vertices(
             units: 0,
             at: from,
             draw,
+            size: size as u32,
         };
     }
     copy_last(bytes, from, n, size, buffer);
@@ -89,6 +89,7 @@ fn take_vertices(
         units: n as u32,
         at: from + n * size,
         draw,
+        size: size as u32,
     }
 }
 
@@ -105,13 +106,14 @@ pub(crate) fn take_draw(
     requires { ⌜ (at ≤ length (now bytes)) × ((getD (now bytes) at 0 ≡ op)
         × ((128 ≤ op) × ((op < 192) × ((1 ≤ most) × Known (now cp) (now sizes))))) ⌝ }
     ensures { λ r. ⌜ MovesDraw (now (bytes .entry)) at (now (cp .entry)) (now (buffer .entry)) most (r .units) (r .at) (r .draw)
-        (now (sizes .exit)) (now (buffer .exit)) ⌝ }
+        (now (sizes .exit)) (now (buffer .exit)) × VertexSize (now (cp .entry)) (r .draw) (r .size) ⌝ }
 {
     if bytes.len() - at < 3 {
         return Many {
             units: 0,
             at,
             draw: Draw::Closed,
+            size: 0,
         };
     }
     let format = op % 8;
@@ -121,6 +123,7 @@ pub(crate) fn take_draw(
             units: 0,
             at,
             draw: Draw::Closed,
+            size: 0,
         };
     }
     let count = octets::half(bytes[at + 1], bytes[at + 2]);
@@ -139,6 +142,7 @@ pub(crate) fn take_draw(
         units: some.units + 1,
         at: some.at,
         draw: left,
+        size: some.size,
     }
 }
 
@@ -153,13 +157,14 @@ pub(crate) fn take_open(
 ) -> Many
     requires { ⌜ Known (now cp) (now sizes) ⌝ }
     ensures { λ r. ⌜ MovesOpen (now (bytes .entry)) (now (cp .entry)) draw (now (buffer .entry)) most (r .units) (r .at) (r .draw)
-        (now (sizes .exit)) (now (buffer .exit)) ⌝ }
+        (now (sizes .exit)) (now (buffer .exit)) × VertexSize (now (cp .entry)) (r .draw) (r .size) ⌝ }
 {
     match draw {
         Draw::Closed => Many {
             units: 0,
             at: 0,
             draw,
+            size: 0,
         },
         Draw::Open {
             primitive,
@@ -171,6 +176,7 @@ pub(crate) fn take_open(
                     units: 0,
                     at: 0,
                     draw,
+                    size: 0,
                 };
             }
             let size = size_of(cp, sizes, format % 8) as usize;
@@ -179,6 +185,7 @@ pub(crate) fn take_open(
                     units: 0,
                     at: 0,
                     draw,
+                    size: 0,
                 };
             }
             take_vertices(bytes, 0, primitive, format, left, size, buffer, most)

@@ -6,9 +6,10 @@ mod straight;
 use command::Draw;
 pub use straight::take_straight;
 
-// How many units were taken, the place after them, and the draw that they leave.
+// How many units were taken, the place after them, the draw that they leave, and the bytes of a vertex of it, 0 where these are not known.
 pub struct Many {
     pub units: u32,
     pub at: usize,
     pub draw: Draw,
+    pub size: u32,
 }

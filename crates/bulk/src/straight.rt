@@ -10,7 +10,8 @@ ghost use lib.ListN.{length};
 ghost use Rattle.walk.specs.Flat.{coreOf};
 ghost use Rattle.walk.specs.Walk.{TakesMany};
 ghost use Rattle.walk.specs.Moves.{Moves, shut};
-ghost use Rattle.bulk.specs.Inner.{MovesAny, Known};
+ghost use Rattle.bulk.specs.Size.{sizeTold};
+ghost use Rattle.bulk.specs.Inner.{MovesAny, Known, VertexSize};
 
 // Units that leave no draw open.
 fn closed(step: Passed) -> Many
@@ -20,6 +21,7 @@ fn closed(step: Passed) -> Many
         units: step.units,
         at: step.at,
         draw: Draw::Closed,
+        size: 0,
     }
 }
 
@@ -28,7 +30,7 @@ fn take_class(
     bytes: &[u8],
     at: usize,
     cp: &mut [u32; 60],
-    bp: &mut [u32; 256],
+    bp: &mut [u32],
     xf: &mut [u32],
     buffer: &mut [u8],
     sizes: &mut [u8; 8],
@@ -37,14 +39,14 @@ fn take_class(
     requires { ⌜ (at < length (now bytes)) × ((1 ≤ most) × Known (now cp) (now sizes)) ⌝ }
     ensures { λ r. ⌜ MovesAny (now (bytes .entry)) at (shut (now (cp .entry)) (now (bp .entry)) (now (xf .entry)) (now (buffer .entry)))
         most (r .units) (r .at) (coreOf (now (cp .exit)) (now (bp .exit)) (r .draw) (now (xf .exit)) (now (buffer .exit)))
-        (now (sizes .exit)) ⌝ }
+        (now (sizes .exit)) × VertexSize (now (cp .exit)) (r .draw) (r .size) ⌝ }
 {
     let op = bytes[at];
     match op {
         0x61 => closed(plain::take_bp(bytes, at, bp, most)),
         0x00 => closed(plain::take_zeros(bytes, at, most)),
         0x08 => closed(loads::take_cp(bytes, at, cp, sizes, most)),
-        0x10 => closed(plain::take_xf(bytes, at, xf)),
+        0x10 => closed(plain::take_xf(bytes, at, xf, most)),
         0x48 | 0x44 => closed(plain::take_fixed(bytes, at, 1)),
         0x20 | 0x28 | 0x30 | 0x38 => closed(plain::take_fixed(bytes, at, 5)),
         0x40 => closed(plain::take_fixed(bytes, at, 9)),
@@ -53,6 +55,7 @@ fn take_class(
             units: 0,
             at,
             draw: Draw::Closed,
+            size: 0,
         },
     }
 }
@@ -62,7 +65,7 @@ fn take_shut(
     bytes: &[u8],
     from: usize,
     cp: &mut [u32; 60],
-    bp: &mut [u32; 256],
+    bp: &mut [u32],
     xf: &mut [u32],
     buffer: &mut [u8],
     sizes: &mut [u8; 8],
@@ -70,7 +73,8 @@ fn take_shut(
 ) -> Many
     requires { ⌜ (from ≤ length (now bytes)) × Known (now cp) (now sizes) ⌝ }
     ensures { λ r. ⌜ Moves (now (bytes .entry)) from (shut (now (cp .entry)) (now (bp .entry)) (now (xf .entry)) (now (buffer .entry)))
-        limit (r .units) (r .at) (coreOf (now (cp .exit)) (now (bp .exit)) (r .draw) (now (xf .exit)) (now (buffer .exit))) ⌝ }
+        limit (r .units) (r .at) (coreOf (now (cp .exit)) (now (bp .exit)) (r .draw) (now (xf .exit)) (now (buffer .exit)))
+        × (r .size ≡ sizeTold (now (cp .exit)) (r .draw)) ⌝ }
 {
     let mut at = from;
     let mut units: u32 = 0;
@@ -80,6 +84,7 @@ fn take_shut(
                 units,
                 at,
                 draw: Draw::Closed,
+                size: 0,
             };
         }
         let many = take_class(bytes, at, cp, bp, xf, buffer, sizes, limit - units);
@@ -91,6 +96,7 @@ fn take_shut(
                 units,
                 at,
                 draw: left,
+                size: many.size,
             };
         };
         if many.units == 0 {
@@ -98,6 +104,7 @@ fn take_shut(
                 units,
                 at,
                 draw: Draw::Closed,
+                size: 0,
             };
         }
     }
@@ -105,6 +112,7 @@ fn take_shut(
         units,
         at,
         draw: Draw::Closed,
+        size: 0,
     }
 }
 
@@ -112,7 +120,7 @@ fn take_shut(
 pub fn take_straight(
     bytes: &[u8],
     cp: &mut [u32; 60],
-    bp: &mut [u32; 256],
+    bp: &mut [u32],
     xf: &mut [u32],
     buffer: &mut [u8],
     draw: Draw,
@@ -120,7 +128,8 @@ pub fn take_straight(
 ) -> Many
     ensures { λ r. ⌜ TakesMany (now (bytes .entry)) (coreOf (now (cp .entry)) (now (bp .entry)) draw (now (xf .entry))
         (now (buffer .entry)))
-        limit (r .units) (r .at) (coreOf (now (cp .exit)) (now (bp .exit)) (r .draw) (now (xf .exit)) (now (buffer .exit))) ⌝ }
+        limit (r .units) (r .at) (coreOf (now (cp .exit)) (now (bp .exit)) (r .draw) (now (xf .exit)) (now (buffer .exit)))
+        × (r .size ≡ sizeTold (now (cp .exit)) (r .draw)) ⌝ }
 {
     let mut sizes = [0u8; 8];
     let first = draws::take_open(bytes, cp, &mut sizes, draw, buffer, limit);
@@ -143,5 +152,6 @@ pub fn take_straight(
         units: first.units + next.units,
         at: next.at,
         draw: open,
+        size: next.size,
     }
 }

@@ -1,20 +1,20 @@
--- What is found where all its bytes are there: a vertex of an open draw, a load, a draw's head.
+-- What is found where all its bytes are there: a vertex of an open draw, a load, a draw's head; and where a vertex lacks some.
 use mathlib.Core.Path.{_≡_, refl, sym, _∙_}
 use mathlib.Core.Bool.{Bool, true, false, cond}
 use mathlib.Core.Logic.{⊎-elim}
 use mathlib.Core.List.{List}
-use Prim.Native.Nat.{ℕ, _+_, _*_, _/_, _%_, _<_, _≤_}
+use Prim.Native.Nat.{ℕ, _+_, _-_, _*_, _/_, _%_, _<_, _≤_}
 use native.Mathlib.Omega.{arith}
 use lib.Dec.{eqb}
 use lib.ListN.{getD}
-use borrow.Author.Tests.{eqb-true, ne-eqb, le-ltb}
+use borrow.Author.Tests.{eqb-true, ne-eqb, le-ltb, lt-ltb}
 use Rattle.octets.specs.BigEndian.{bigEndian}
 use Rattle.layout.specs.declared.Descriptor.{Descriptor}
 use Rattle.layout.specs.Sizes.{offsetOf}
 use Rattle.layout.specs.Answers.{refusalOf, lengthOf}
 use Rattle.layout.proofs.Bounds.{length-le}
 use Rattle.command.specs.declared.Draw.the-variants.{Closed, Open}
-use Rattle.command.specs.Command.{unit, vertex, loadCp, loadBp, loadXf, drawHead}
+use Rattle.command.specs.Command.{unit, waiting, vertex, loadCp, loadBp, loadXf, drawHead}
 use Rattle.command.specs.Places.{cpAccepted}
 use Rattle.command.specs.Look.{descriptorOf, vertexBytes, whole, lookCp, lookBp, lookHead, lookVertex, byOpcode, lookOf}
 use Rattle.command.specs.Look.{xfCount, xfWords, xfAddress, lookXf}
@@ -36,6 +36,13 @@ pub looks-vertex : (b : List ℕ) (n : ℕ) (cp : List ℕ) (p f left : ℕ) →
     → lookOf b n cp (Open p f left) ≡ unit vertex 0 (vertexBytes cp f)
 unfolding lookOf lookVertex whole
 looks-vertex b n cp p f left h l = rw (accepted (descriptorOf cp f) h, le-ltb n (vertexBytes cp f) l)
+
+pub waits-vertex : (b : List ℕ) (n : ℕ) (cp : List ℕ) (p f left : ℕ) → n < vertexBytes cp f
+    → lookOf b n cp (Open p f left) ≡ waiting (vertexBytes cp f - n)
+unfolding lookOf lookVertex whole
+waits-vertex b n cp p f left h =
+    let some : 1 ≤ vertexBytes cp f = omega arith in
+    rw (accepted (descriptorOf cp f) some, lt-ltb n (vertexBytes cp f) h)
 
 pub looks-bp : (b : List ℕ) (n : ℕ) (cp : List ℕ) → getD b 0 0 ≡ 0x61 → 5 ≤ n
     → lookOf b n cp Closed ≡ unit (loadBp (getD b 1 0) (bigEndian b 2 3)) 0 5

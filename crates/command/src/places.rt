@@ -3,7 +3,10 @@ ghost use mathlib.Core.Path.{_≡_};
 ghost use Prim.Native.Nat.{_+_};
 ghost use Rattle.command.specs.Places.{vcdPlace, vatPlace, basePlace, stridePlace, cpPlace, cpAccepted};
 
+// The CP registers, and the XF words.
 pub const COUNT: usize = 60;
+
+pub const XF_COUNT: u32 = 4184;
 
 pub fn vcd_place(group: u8) -> usize
     ensures { λ r. ⌜ r ≡ vcdPlace group ⌝ }

@@ -63,7 +63,7 @@ pub fn look_xf(b: [u8; 9], count: u32) -> Next
     }
     let words = octets::half(b[1], b[2]) % 16 + 1;
     let address = octets::half(b[3], b[4]);
-    if 4184 < address as u32 + words as u32 {
+    if places::XF_COUNT < address as u32 + words as u32 {
         return Next::Refused(Reason::XfLoadPastEnd);
     }
     let command = Command::LoadXf {

@@ -16,7 +16,7 @@ use Rattle.refusal.specs.declared.Reason.the-variants.{InvalidState}
 use Rattle.command.specs.declared.Command.{Command}
 use Rattle.command.specs.declared.Draw.{Draw}
 use Rattle.command.specs.Command.{Found, unit, kindOf, numbersOf}
-use Rattle.effect.specs.Effect.{cpAfter, bpAfter}
+use Rattle.effect.specs.Effect.{cpAfter}
 use Rattle.fifo.specs.declared.Fifo.{Fifo}
 use Rattle.processor.proofs.StepAnswer as Answers
 use Rattle.processor.specs.declared.StepAnswer.{StepAnswer}
@@ -34,6 +34,8 @@ use Rattle.words.specs.Front.{frontOf, wordsAfterUnit}
 use Rattle.encoding.specs.Told.{firstOf, secondOf, stepNumber, lackingOf, unitOf, TellsStep}
 use Rattle.words.proofs.Fits.{held-is}
 use Rattle.duckhammock.specs.Calls.{lentOf, lentBy, Tells, Ends}
+use Rattle.duckhammock.specs.InPlace.{AheadKept}
+use Rattle.duckhammock.proofs.Placed.{kept-cp, kept-whole}
 use Rattle.duckhammock.proofs.Refusals.{not-zero}
 
 -- the state that is handed on is the one that the words say
@@ -42,6 +44,13 @@ pub handed : (l xf vertex : List ℕ) {f : Fifo} {cp bp : List ℕ} {draw : Draw
 handed l xf vertex h p q =
     let k = held-is l h in
     λ i. stateOf (k .0 i) (p i) (q i) (k .1 i) xf vertex
+
+-- a state that is left as it was: so are the words, where nothing but their BP registers was lent
+as-lent : {words words' : List ℕ} {s : State} {f : Fifo} {cp xf vertex : List ℕ} {draw : Draw} → s .bp ≡ bpOf words
+    → AheadKept words words' → stateOf f cp (bpOf words') draw xf vertex ≡ s → lentOf words' xf vertex ≡ lentOf words (s .xf) (s .buffer)
+as-lent of-bp kept left =
+    let same = kept-whole kept (ap (λ (x : State). x .bp) left ∙ of-bp) in
+    λ i. lentOf (same i) (left i .xf) (left i .buffer)
 
 -- ---- a step
 
@@ -84,46 +93,43 @@ module _ (ring : List ℕ) (s : State) (words told : List ℕ) (lacking : ℕ) w
   none-after (Waiting k) h = refl
   none-after (Refused reason) h = refl
 
-  pub step-none : {c : Stepped} {cp bp xf vertex : List ℕ} {r lacking' : ℕ} → Steps ring s c cp bp xf vertex → isNone (c .answer)
+  pub step-none : {c : Stepped} {cp xf vertex words' : List ℕ} {r lacking' : ℕ} → s .bp ≡ bpOf words
+      → Steps ring s c cp (bpOf words') xf vertex → AheadKept words words' → isNone (c .answer)
       → TellsStep (meaning (c .answer)) lacking r lacking'
-      → Tells ring s (lentOf words (s .xf) (s .buffer)) told lacking r (lentOf words xf vertex) told lacking'
+      → Tells ring s (lentOf words (s .xf) (s .buffer)) told lacking r (lentOf words' xf vertex) told lacking'
   unfolding stepOf
-  step-none {c} h n e =
+  step-none {c} of-bp h kept n e =
       let z = none-number (c .answer) n (e .answer-is) in
       let left : _ ≡ s = h .state-is ∙ ap (after ring s) (sym (h .answer-is)) ∙ none-after (c .answer) n in
       record {
         answer-is = e .answer-is ∙ ap stepNumber (h .answer-is);
         lacking-is = e .lacking-is ∙ ap (λ (x : Found). lackingOf x lacking) (h .answer-is);
         unit-is = rw z;
-        lent-is = rw z (ap (λ (x : State). lentOf words (x .xf) (x .buffer)) left);
+        lent-is = rw z (as-lent of-bp kept left);
       }
 
-  -- registers that a command does not load are those of the words
-  whole-cp : (c cp : List ℕ) → s .cp ≡ cpOf words → cp ≡ cpAfter c (s .cp) → cond (eqb (kindOf c) 0x08) cp (cpOf words) ≡ cp
+  -- CP registers are those of the words where a command loads none
+  whole-cp : (c cp held : List ℕ) → s .cp ≡ held → cp ≡ cpAfter c (s .cp) → cond (eqb (kindOf c) 0x08) cp held ≡ cp
   unfolding cpAfter
-  whole-cp c cp e h = ⊎-elim (λ z. rw z) (λ z. rw z (sym (rw z at h ∙ e))) (tested (eqb (kindOf c) 0x08))
+  whole-cp c cp held e h = ⊎-elim (λ z. rw z) (λ z. rw z (sym (rw z at h ∙ e))) (tested (eqb (kindOf c) 0x08))
 
-  whole-bp : (c bp : List ℕ) → s .bp ≡ bpOf words → bp ≡ bpAfter c (s .bp) → cond (eqb (kindOf c) 0x61) bp (bpOf words) ≡ bp
-  unfolding bpAfter
-  whole-bp c bp e h = ⊎-elim (λ z. rw z) (λ z. rw z (sym (rw z at h ∙ e))) (tested (eqb (kindOf c) 0x61))
-
-  pub step-done : {c : Stepped} {cp bp xf vertex words' told' : List ℕ} (command : Command) (memory n : ℕ)
-      → s .cp ≡ cpOf words → s .bp ≡ bpOf words
-      → Steps ring s c cp bp xf vertex → c .answer ≡ Done command memory n
-      → words' ≡ wordsAfterUnit words (kindOf (numbersOf command)) (c .fifo) cp bp (c .draw)
+  pub step-done : {c : Stepped} {cp xf vertex stepped words' told' : List ℕ} (command : Command) (memory n : ℕ)
+      → s .cp ≡ cpOf words
+      → Steps ring s c cp (bpOf stepped) xf vertex → AheadKept words stepped → c .answer ≡ Done command memory n
+      → words' ≡ wordsAfterUnit stepped (kindOf (numbersOf command)) (c .fifo) cp (c .draw)
       → told' ≡ unitOf (unit (numbersOf command) memory n)
       → Tells ring s (lentOf words (s .xf) (s .buffer)) told lacking 0 (lentOf words' xf vertex) told' lacking
   unfolding wordsAfterUnit stepOf executed
-  step-done {c} {cp} {bp} {xf} {vertex} command memory n of-cp of-bp h t w u =
+  step-done {c} {cp} {xf} {vertex} {stepped} command memory n of-cp h kept t w u =
       let found = ap meaning (sym t) ∙ h .answer-is in
       let left = h .state-is ∙ ap (after ring s) (sym found) in
-      let p = whole-cp (numbersOf command) cp of-cp (ap (λ (x : State). x .cp) left) in
-      let q = whole-bp (numbersOf command) bp of-bp (ap (λ (x : State). x .bp) left) in
+      let p = whole-cp (numbersOf command) cp (cpOf stepped) (of-cp ∙ sym (kept-cp kept)) (ap (λ (x : State). x .cp) left) in
       record {
         answer-is = ap stepNumber found;
         lacking-is = ap (λ (x : Found). lackingOf x lacking) found;
         unit-is = u ∙ ap unitOf found;
-        lent-is = ap (λ (x : List ℕ). lentOf x xf vertex) (w ∙ (λ i. wordsBy (c .fifo) (p i) (q i) (c .draw))) ∙ ap lentBy (h .state-is);
+        lent-is =
+            ap (λ (x : List ℕ). lentOf x xf vertex) (w ∙ (λ i. wordsBy (c .fifo) (p i) (bpOf stepped) (c .draw))) ∙ ap lentBy (h .state-is);
       }
 
 -- ---- a run
@@ -147,23 +153,24 @@ module _ (ring : List ℕ) (limit : ℕ) (s : State) (words : List ℕ) where
       let m : min limit runLimit ≡ 0 = ap (λ (n : ℕ). min n runLimit) z ∙ min-eq-left (omega arith) in
       by-gate (gateOf s (length ring)) (ap (λ (n : ℕ). gated (gateOf s (length ring)) s (steps ring n s)) m) e
 
-  module _ {c : Ran} {cp bp xf vertex report : List ℕ} {r lacking : ℕ} (h : Reports (runOf ring limit s) c cp bp xf vertex)
+  module _ {c : Ran} {cp xf vertex report : List ℕ} (ran : List ℕ) {r lacking : ℕ}
+      (h : Reports (runOf ring limit s) c cp (bpOf ran) xf vertex)
       (e : r ≡ firstOf (meaningOfStop (c .stop))) (k : lacking ≡ secondOf (meaningOfStop (c .stop)))
       (p : report ≡ c .units ∷ lacking ∷ []) where
     told-by : report ≡ length (runOf ring limit s .units) ∷ secondOf (runOf ring limit s .stop) ∷ []
     told-by = p ∙ (λ i. h .units-are i ∷ (k ∙ ap secondOf (h .stop-is)) i ∷ [])
 
-    pub run-none : c .units ≡ 0 → Ends (runOf ring limit s) (lentOf words (s .xf) (s .buffer)) r (lentOf words xf vertex) report
-    run-none z =
+    pub run-none : s .bp ≡ bpOf words → AheadKept words ran → c .units ≡ 0
+        → Ends (runOf ring limit s) (lentOf words (s .xf) (s .buffer)) r (lentOf ran xf vertex) report
+    run-none of-bp kept z =
         let n = sym (h .units-are) ∙ z in
-        let left : _ ≡ s = h .state-is ∙ none-run ring limit s n in
         record {
           answer-is = e ∙ ap firstOf (h .stop-is);
           report-is = told-by;
-          lent-is = rw n (ap (λ (x : State). lentOf words (x .xf) (x .buffer)) left);
+          lent-is = rw n (as-lent of-bp kept (h .state-is ∙ none-run ring limit s n));
         }
 
-    pub run-some : {words' : List ℕ} → (c .units ≡ 0 → ⊥) → words' ≡ wordsBy (c .fifo) cp bp (c .draw)
+    pub run-some : {words' : List ℕ} → (c .units ≡ 0 → ⊥) → words' ≡ wordsBy (c .fifo) cp (bpOf ran) (c .draw)
         → Ends (runOf ring limit s) (lentOf words (s .xf) (s .buffer)) r (lentOf words' xf vertex) report
     run-some z w =
         let n = ne-eqb (length (runOf ring limit s .units)) 0 (λ x. z (h .units-are ∙ x)) in

@@ -2,3 +2,4 @@ pub mod Calls
 pub mod Formats
 pub mod Counting
 pub mod Promises
+pub mod InPlace

@@ -22,13 +22,20 @@ pub use patches::duckhammock_write_command;
 pub use patches::duckhammock_write_patch;
 use processor::Gate;
 use processor::StepAnswer;
+use processor::Stepped;
 use refusal::Reason;
+use running::Ran;
+use words::BP_PLACE;
 use words::Front;
 ghost use mathlib.Core.Path.{_≡_};
+ghost use lib.ListN.{length};
 ghost use Rattle.refusal.specs.Number.{number};
 ghost use Rattle.processor.specs.Gate.{gateBy};
-ghost use Rattle.running.specs.Run.{runOf};
+ghost use Rattle.processor.specs.State.{stateOf};
+ghost use Rattle.processor.specs.Step.{Steps};
+ghost use Rattle.running.specs.Run.{runOf, Reports};
 ghost use Rattle.words.specs.State.{cpOf, bpOf, stateAt, freshWords};
+ghost use Rattle.duckhammock.specs.InPlace.{AheadKept};
 ghost use Rattle.duckhammock.specs.Calls.{ReadsRegister, WritesRegister, Feeds, lentOf, Tells, Ends};
 
 // The hardware offset of the control register, whose state word may be wider than the register.
@@ -120,6 +127,54 @@ pub extern "C" fn duckhammock_feed(state: &mut [u32; 327], ring: &mut [u8], byte
     0
 }
 
+// A step whose BP registers are lent where they stand among the words.
+fn step_words(
+    state: &mut [u32],
+    fifo: Fifo,
+    cp: &mut [u32; 60],
+    draw: Draw,
+    ring: &[u8],
+    xf: &mut [u32],
+    vertex: &mut [u8],
+) -> Stepped
+    requires { ⌜ length (now state) ≡ 327 ⌝ }
+    ensures { λ r. ⌜ (Steps (now (ring .entry))
+        (stateOf fifo (now (cp .entry)) (bpOf (now (state .entry))) draw (now (xf .entry)) (now (vertex .entry)))
+        r (now (cp .exit)) (bpOf (now (state .exit))) (now (xf .exit)) (now (vertex .exit)))
+        × AheadKept (now (state .entry)) (now (state .exit)) ⌝ }
+{
+    processor::step(fifo, cp, &mut state[BP_PLACE..], draw, ring, xf, vertex)
+}
+
+// A run whose BP registers are lent so.
+fn run_words(
+    state: &mut [u32],
+    fifo: Fifo,
+    cp: &mut [u32; 60],
+    draw: Draw,
+    ring: &[u8],
+    xf: &mut [u32],
+    vertex: &mut [u8],
+    limit: u32,
+) -> Ran
+    requires { ⌜ length (now state) ≡ 327 ⌝ }
+    ensures { λ r. ⌜ (Reports (runOf (now (ring .entry)) limit
+        (stateOf fifo (now (cp .entry)) (bpOf (now (state .entry))) draw (now (xf .entry)) (now (vertex .entry))))
+        r (now (cp .exit)) (bpOf (now (state .exit))) (now (xf .exit)) (now (vertex .exit)))
+        × AheadKept (now (state .entry)) (now (state .exit)) ⌝ }
+{
+    running::run(
+        fifo,
+        cp,
+        &mut state[BP_PLACE..],
+        draw,
+        ring,
+        xf,
+        vertex,
+        limit,
+    )
+}
+
 // Takes one unit, and tells its command's five words and how many bytes it has; where it waits, how many bytes are lacking.
 #[no_mangle]
 pub extern "C" fn duckhammock_step(
@@ -140,8 +195,7 @@ pub extern "C" fn duckhammock_step(
         return refused(Reason::InvalidState);
     };
     let mut cp = words::cp(state);
-    let mut bp = words::bp(state);
-    let stepped = processor::step(fifo, &mut cp, &mut bp, draw, ring, xf, vertex);
+    let stepped = step_words(state, fifo, &mut cp, draw, ring, xf, vertex);
     let answer = stepped.answer;
     let StepAnswer::Done {
         command,
@@ -153,13 +207,12 @@ pub extern "C" fn duckhammock_step(
     };
     let after = stepped.fifo;
     let left = stepped.draw;
-    words::save_unit(state, command, after, &cp, &bp, left);
+    words::save_unit(state, command, after, &cp, left);
     *unit = encoding::unit_words(command, memory, length);
     0
 }
 
-// The first of 1 to 5 that applies to the words as they stand, 0 where none does. The two copies are only read, and the compiler leaves
-// them out.
+// The first of 1 to 5 that applies to the words as they stand, 0 where none does. The copy is only read, and the compiler leaves it out.
 fn gate_number(
     state: &[u32; 327],
     fifo: Fifo,
@@ -171,8 +224,8 @@ fn gate_number(
     ensures { λ r. ⌜ r ≡ gateBy fifo (cpOf (now (state .entry))) (bpOf (now (state .entry))) draw ring xf vertex ⌝ }
 {
     let cp = words::cp(state);
-    let bp = words::bp(state);
-    let gate = processor::pass(fifo, &cp, &bp, draw, ring, xf, vertex);
+    let all = &state[..];
+    let gate = processor::pass(fifo, &cp, &all[BP_PLACE..], draw, ring, xf, vertex);
     match gate {
         Gate::Passed => 0,
         Gate::Refused(reason) => refused(reason),
@@ -203,8 +256,7 @@ pub extern "C" fn duckhammock_run(
         return gate_number(state, fifo, draw, ring.len(), xf.len(), vertex.len());
     }
     let mut cp = words::cp(state);
-    let mut bp = words::bp(state);
-    let ran = running::run(fifo, &mut cp, &mut bp, draw, ring, xf, vertex, limit);
+    let ran = run_words(state, fifo, &mut cp, draw, ring, xf, vertex, limit);
     let stop = ran.stop;
     let units = ran.units;
     let told = [units, encoding::stop_lacking(stop)];
@@ -214,6 +266,6 @@ pub extern "C" fn duckhammock_run(
     }
     let last = ran.fifo;
     let left = ran.draw;
-    words::save(state, last, &cp, &bp, left);
+    words::save_before_bp(state, last, &cp, left);
     encoding::stop_number(stop)
 }

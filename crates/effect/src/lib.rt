@@ -4,7 +4,7 @@ use command::Draw;
 ghost use mathlib.Core.Path.{_≡_};
 ghost use mathlib.Core.Bool.{cond};
 ghost use Prim.Native.Nat.{_+_, _*_, _≤_};
-ghost use lib.ListN.{length};
+ghost use lib.ListN.{length, getD, set};
 ghost use Rattle.octets.specs.BigEndian.{bigEndian};
 ghost use Rattle.command.specs.Command.{numbersOf};
 ghost use Rattle.effect.specs.Effect.{keptOf, loadedCp, loadedBp, loadedXf, storedXf, copied};
@@ -47,16 +47,31 @@ pub fn replace_bits(old: u32, mask: u32, number: u32) -> u32
     (old & (0xFF_FFFF ^ mask)) | (number & mask)
 }
 
+// The number of a register, 0 where there is none.
+fn held(bp: &[u32], at: usize) -> u32
+    ensures { λ r. ⌜ r ≡ getD (now (bp .entry)) at 0 ⌝ }
+{
+    if at < bp.len() { bp[at] } else { 0 }
+}
+
+// Stores the number of a register, nothing where there is none.
+fn hold(bp: &mut [u32], at: usize, number: u32)
+    ensures { λ _. ⌜ now (bp .exit) ≡ set (now (bp .entry)) at number ⌝ }
+{
+    if at < bp.len() {
+        bp[at] = number;
+    }
+}
+
 // A BP load, by the mask in register FE, which it then sets to FFFFFF unless it was a load of FE.
-pub fn load_bp(bp: &mut [u32; 256], register: u8, number: u32)
+pub fn load_bp(bp: &mut [u32], register: u8, number: u32)
     ensures { λ _. ⌜ now (bp .exit) ≡ loadedBp (now (bp .entry)) register number ⌝ }
 {
-    let mask = bp[0xFE];
+    let mask = held(bp, 0xFE);
     let at = register as usize;
-    let old = bp[at];
-    let new = replace_bits(old, mask, number);
-    bp[at] = new;
-    bp[0xFE] = chosen(register == 0xFE, new, 0xFF_FFFF);
+    let new = replace_bits(held(bp, at), mask, number);
+    hold(bp, at, new);
+    hold(bp, 0xFE, chosen(register == 0xFE, new, 0xFF_FFFF));
 }
 
 // The word at a place of the bytes.
@@ -87,8 +102,9 @@ fn store_xf(xf: &mut [u32], bytes: &[u8], address: usize, words: usize)
     requires { ⌜ (5 + 4 * words ≤ length (now bytes)) × ((address + words ≤ length (now xf)) × (words ≤ 255)) ⌝ }
     ensures { λ _. ⌜ now (xf .exit) ≡ storedXf (now (xf .entry)) (now (bytes .entry)) address words ⌝ }
 {
+    let fours = words - words % 4;
     let mut i: usize = 0;
-    while 4 <= words - i {
+    while i < fours {
         store_four(xf, bytes, address + i, 5 + 4 * i);
         i += 4;
     }
@@ -178,7 +194,7 @@ pub fn apply(
     command: Command,
     bytes: &[u8],
     cp: &mut [u32; 60],
-    bp: &mut [u32; 256],
+    bp: &mut [u32],
     xf: &mut [u32],
     buffer: &mut [u8],
 )

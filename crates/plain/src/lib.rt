@@ -1,5 +1,5 @@
-// Units that open no draw, off a plain slice of bytes, where they lie whole from a place on while no draw is open: runs of 00 and of BP
-// loads, one XF load, one unit of a fixed length.
+// Units that open no draw, off a plain slice of bytes, where they lie whole from a place on while no draw is open: runs of 00, of BP
+// loads and of XF loads, one unit of a fixed length.
 mod loads;
 mod zeros;
 

@@ -1,4 +1,4 @@
-// BP loads that follow each other, and an XF load.
+// BP loads and XF loads that follow each other.
 use crate::Passed;
 ghost use Rattle.walk.specs.Moves.{MovesBp, MovesXf};
 ghost use Rattle.plain.specs.Inner.{HeadOf};
@@ -9,7 +9,7 @@ const BP: u8 = 0x61;
 const XF: u8 = 0x10;
 
 // BP loads that follow each other, at most so many.
-pub fn take_bp(bytes: &[u8], from: usize, bp: &mut [u32; 256], most: u32) -> Passed
+pub fn take_bp(bytes: &[u8], from: usize, bp: &mut [u32], most: u32) -> Passed
     ensures { λ r. ⌜ MovesBp (now (bytes .entry)) from (now (bp .entry)) most (r .units) (r .at) (now (bp .exit)) ⌝ }
 {
     if bytes.len() < from {
@@ -46,8 +46,8 @@ fn take_words(bytes: &[u8], at: usize, xf: &mut [u32], words: u16, address: u16)
     Passed { units: 1, at: end }
 }
 
-// An XF load.
-pub fn take_xf(bytes: &[u8], at: usize, xf: &mut [u32]) -> Passed
+// One XF load.
+fn take_load(bytes: &[u8], at: usize, xf: &mut [u32]) -> Passed
     ensures { λ r. ⌜ MovesXf (now (bytes .entry)) at (now (xf .entry)) 1 (r .units) (r .at) (now (xf .exit)) ⌝ }
 {
     if bytes.len() < at {
@@ -61,8 +61,25 @@ pub fn take_xf(bytes: &[u8], at: usize, xf: &mut [u32]) -> Passed
     }
     let words = octets::half(bytes[at + 1], bytes[at + 2]) % 16 + 1;
     let address = octets::half(bytes[at + 3], bytes[at + 4]);
-    if 4184 < address as u32 + words as u32 {
+    if command::places::XF_COUNT < address as u32 + words as u32 {
         return Passed { units: 0, at };
     }
     take_words(bytes, at, xf, words, address)
+}
+
+// XF loads that follow each other, at most so many.
+pub fn take_xf(bytes: &[u8], from: usize, xf: &mut [u32], most: u32) -> Passed
+    ensures { λ r. ⌜ MovesXf (now (bytes .entry)) from (now (xf .entry)) most (r .units) (r .at) (now (xf .exit)) ⌝ }
+{
+    let mut at = from;
+    let mut units: u32 = 0;
+    while units < most {
+        let one = take_load(bytes, at, xf);
+        at = one.at;
+        units += one.units;
+        if one.units == 0 {
+            return Passed { units, at };
+        }
+    }
+    Passed { units, at }
 }

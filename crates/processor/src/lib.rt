@@ -94,7 +94,7 @@ pub fn read_register(fifo: Fifo, registers: Registers, offset: u16) -> Reading
 pub fn step(
     fifo: Fifo,
     cp: &mut [u32; 60],
-    bp: &mut [u32; 256],
+    bp: &mut [u32],
     draw: Draw,
     ring: &[u8],
     xf: &mut [u32],

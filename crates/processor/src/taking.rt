@@ -24,7 +24,7 @@ fn execute(
     ring: &[u8],
     n: u32,
     cp: &mut [u32; 60],
-    bp: &mut [u32; 256],
+    bp: &mut [u32],
     xf: &mut [u32],
     buffer: &mut [u8],
 )
@@ -49,7 +49,7 @@ pub fn take_at(
     cursor: Cursor,
     ring: &[u8],
     cp: &mut [u32; 60],
-    bp: &mut [u32; 256],
+    bp: &mut [u32],
     draw: Draw,
     xf: &mut [u32],
     buffer: &mut [u8],

@@ -10,7 +10,7 @@ ghost use lib.ListN.{length, take, drop};
 ghost use mathlib.Core.List.{[], _∷_};
 ghost use Rattle.refusal.specs.Number.{number};
 ghost use Rattle.processor.specs.Joined.{Joins};
-ghost use Rattle.processor.specs.Gate.{cpFits, drawFits, registersFit, stateFits, gateBy, meaningOfGate};
+ghost use Rattle.processor.specs.Gate.{cpFits, bpFits, drawFits, registersFit, stateFits, gateBy, meaningOfGate};
 
 // n values from a place on, joined bit by bit: below a power of two exactly where each of them is.
 fn join(values: &[u32], from: usize, n: usize) -> u32
@@ -33,6 +33,16 @@ fn cp_fits(cp: &[u32; 60]) -> bool
     (join(cp, 28, 16) < 0x400_0000) & (join(cp, 44, 16) < 256)
 }
 
+// BP registers of 24 bits. For the 256 that there are the loop's length is a constant, which the compiler makes use of.
+fn bp_fits(bp: &[u32]) -> bool
+    ensures { λ r. ⌜ r ≡ bpFits (now (bp .entry)) ⌝ }
+{
+    if bp.len() == 256 {
+        return join(bp, 0, 256) < 0x100_0000;
+    }
+    join(bp, 0, bp.len()) < 0x100_0000
+}
+
 // An open draw has a vertex left, and a primitive and a format of three bits.
 fn draw_fits(draw: Draw) -> bool
     ensures { λ r. ⌜ r ≡ drawFits draw ⌝ }
@@ -48,14 +58,14 @@ fn draw_fits(draw: Draw) -> bool
 }
 
 // BP registers of 24 bits, bases, strides and the draw.
-fn registers_fit(cp: &[u32; 60], bp: &[u32; 256], draw: Draw) -> bool
+fn registers_fit(cp: &[u32; 60], bp: &[u32], draw: Draw) -> bool
     ensures { λ r. ⌜ r ≡ registersFit (now (cp .entry)) (now (bp .entry)) draw ⌝ }
 {
-    (join(bp, 0, 256) < 0x100_0000) & (cp_fits(cp) & draw_fits(draw))
+    bp_fits(bp) & (cp_fits(cp) & draw_fits(draw))
 }
 
 // The whole of 1.
-fn state_fits(fifo: Fifo, cp: &[u32; 60], bp: &[u32; 256], draw: Draw, ring: usize) -> bool
+fn state_fits(fifo: Fifo, cp: &[u32; 60], bp: &[u32], draw: Draw, ring: usize) -> bool
     ensures { λ r. ⌜ r ≡ stateFits fifo (now (cp .entry)) (now (bp .entry)) draw ring ⌝ }
 {
     fifo::ready(fifo, ring) & ((fifo.control < 64) & registers_fit(cp, bp, draw))
@@ -78,7 +88,7 @@ fn first_of(a: bool, first: Reason, b: bool, second: Reason) -> Gate
 pub fn pass(
     fifo: Fifo,
     cp: &[u32; 60],
-    bp: &[u32; 256],
+    bp: &[u32],
     draw: Draw,
     ring: usize,
     xf: usize,

@@ -5,3 +5,4 @@ pub mod Runs
 pub mod Meanings
 pub mod Invariant
 pub mod Waiting
+pub mod Unlooked

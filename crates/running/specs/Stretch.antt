@@ -1,11 +1,13 @@
 -- Units of the first bytes from a cursor on: what the inner function promises for every cursor and ring. Nobody needs to read this to
 -- believe the crate.
 use mathlib.Core.Path.{_≡_}
+use mathlib.Core.Logic.{_⊎_}
 use mathlib.Core.List.{List}
 use Prim.Native.Nat.{ℕ, _≤_}
 use Rattle.command.specs.declared.Draw.{Draw}
 use Rattle.walk.specs.Flat.{coreOf}
 use Rattle.walk.specs.Walk.{TakesMany}
+use Rattle.bulk.specs.Size.{sizeTold}
 use Rattle.queue.specs.declared.Cursor.{Cursor}
 use Rattle.queue.specs.Cursor.{skipped}
 use Rattle.processor.specs.Cursor.{bytesAt}
@@ -18,3 +20,7 @@ pub record TakesStretch (cursor : Cursor) (ring cp bp : List ℕ) (draw : Draw) 
   pub there : lent ≤ cursor .left
   pub taken : TakesMany (bytesAt cursor ring lent) (coreOf cp bp draw xf buffer) most units used (coreOf cp' bp' draw' xf' buffer')
   pub moved : cursor' ≡ skipped cursor used
+
+-- the bytes of a vertex of the draw, or 0 where they are not known
+abbrev pub SizeKnown : List ℕ → Draw → ℕ → Type 0
+SizeKnown cp draw size = (size ≡ 0) ⊎ (size ≡ sizeTold cp draw)

@@ -28,7 +28,7 @@ pub struct Ran {
 pub fn run(
     fifo: Fifo,
     cp: &mut [u32; 60],
-    bp: &mut [u32; 256],
+    bp: &mut [u32],
     draw: Draw,
     ring: &[u8],
     xf: &mut [u32],

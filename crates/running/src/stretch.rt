@@ -4,13 +4,14 @@ use queue::Cursor;
 ghost use mathlib.Core.Path.{_≡_};
 ghost use mathlib.Core.Bool.{true};
 ghost use Rattle.queue.specs.Cursor.{straightBy};
-ghost use Rattle.running.specs.Stretch.{TakesStretch};
+ghost use Rattle.running.specs.Stretch.{TakesStretch, SizeKnown};
 
-// What is left of the cursor and the draw, and how many units were taken.
+// What is left of the cursor and the draw, how many units were taken, and the bytes of a vertex of the draw, 0 where these are not known.
 pub struct Stretch {
     pub cursor: Cursor,
     pub draw: Draw,
     pub units: u32,
+    pub size: u32,
 }
 
 // How many bytes lie straight: those that are left, or those up to the ring's end.
@@ -30,7 +31,7 @@ pub(crate) fn take_stretch(
     cursor: Cursor,
     ring: &[u8],
     cp: &mut [u32; 60],
-    bp: &mut [u32; 256],
+    bp: &mut [u32],
     draw: Draw,
     xf: &mut [u32],
     buffer: &mut [u8],
@@ -38,7 +39,8 @@ pub(crate) fn take_stretch(
 ) -> Stretch
     ensures { λ r. ⌜ TakesStretch cursor (now (ring .entry)) (now (cp .entry)) (now (bp .entry)) draw (now (xf .entry))
         (now (buffer .entry))
-        most (r .cursor) (r .draw) (r .units) (now (cp .exit)) (now (bp .exit)) (now (xf .exit)) (now (buffer .exit)) ⌝ }
+        most (r .cursor) (r .draw) (r .units) (now (cp .exit)) (now (bp .exit)) (now (xf .exit)) (now (buffer .exit))
+        × SizeKnown (now (cp .exit)) (r .draw) (r .size) ⌝ }
 {
     let n = reach(cursor);
     let at = cursor.at as usize;
@@ -48,6 +50,7 @@ pub(crate) fn take_stretch(
             cursor: queue::skip(cursor, 0),
             draw,
             units: 0,
+            size: 0,
         };
     }
     let many = bulk::take_straight(&ring[at..end], cp, bp, xf, buffer, draw, most);
@@ -56,5 +59,6 @@ pub(crate) fn take_stretch(
         cursor: queue::skip(cursor, many.at as u32),
         draw: left,
         units: many.units,
+        size: many.size,
     }
 }

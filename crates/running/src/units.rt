@@ -3,13 +3,17 @@ use crate::Stop;
 use crate::stretch;
 use command::Draw;
 use fifo::Fifo;
+use processor::Moved;
 use processor::StepAnswer;
+use queue::Cursor;
 ghost use mathlib.Core.Path.{_≡_};
 ghost use Prim.Native.Nat.{min};
 ghost use lib.ListN.{length};
 ghost use Rattle.processor.specs.Gate.{gateBy};
+ghost use Rattle.processor.specs.Cursor.{seen, Takes};
 ghost use Rattle.processor.specs.Step.{meaning};
 ghost use Rattle.processor.specs.State.{stateOf};
+ghost use Rattle.running.specs.Stretch.{SizeKnown};
 ghost use Rattle.running.specs.Run.{runLimit, stopOf, meaningOfStop, Arrives};
 
 // The most units of a run.
@@ -41,6 +45,37 @@ fn stop_for(answer: StepAnswer) -> Stop
     }
 }
 
+// Takes the unit that the cursor begins with, as `take_at` does. In an open draw whose vertices are known to have so many bytes, waiting
+// needs no look.
+fn take_next(
+    cursor: Cursor,
+    ring: &[u8],
+    cp: &mut [u32; 60],
+    bp: &mut [u32],
+    draw: Draw,
+    xf: &mut [u32],
+    buffer: &mut [u8],
+    size: u32,
+) -> Moved
+    requires { ⌜ SizeKnown (now cp) draw size ⌝ }
+    ensures { λ r. ⌜ Takes (seen cursor (now (ring .entry)) (now (cp .entry)) draw)
+        cursor (now (ring .entry)) (now (cp .entry)) (now (bp .entry)) draw (now (xf .entry)) (now (buffer .entry))
+        (r .answer) (r .cursor) (r .draw) (now (cp .exit)) (now (bp .exit)) (now (xf .exit)) (now (buffer .exit)) ⌝ }
+{
+    let there = cursor.left;
+    let Draw::Open { .. } = draw else {
+        return processor::take_at(cursor, ring, cp, bp, draw, xf, buffer);
+    };
+    if size <= there {
+        return processor::take_at(cursor, ring, cp, bp, draw, xf, buffer);
+    }
+    Moved {
+        cursor,
+        draw,
+        answer: StepAnswer::Waiting(size - there),
+    }
+}
+
 // Takes units off the queue of a state that has passed 1 to 5:
 // "A run stops at its limit, at waiting or at a refusal, the limit tested first".
 // Before each unit those that lie straight in the ring are taken in one call.
@@ -48,7 +83,7 @@ pub(crate) fn take_units(
     fifo: Fifo,
     ring: &[u8],
     cp: &mut [u32; 60],
-    bp: &mut [u32; 256],
+    bp: &mut [u32],
     first: Draw,
     xf: &mut [u32],
     buffer: &mut [u8],
@@ -76,7 +111,7 @@ pub(crate) fn take_units(
                 stop: Stop::Limit,
             };
         }
-        let moved = processor::take_at(next, ring, cp, bp, open, xf, buffer);
+        let moved = take_next(next, ring, cp, bp, open, xf, buffer, ahead.size);
         let answer = moved.answer;
         let StepAnswer::Done { .. } = answer else {
             return Course {

@@ -13,7 +13,7 @@ use Rattle.patch.specs.Commands.{bytesOfPatches}
 use Rattle.sequence.specs.Start.{firstWorld}
 
 -- "Begin with nothing that document 01 refuses by 1, 2 or 3, an empty ring, no draw open, the mask at FFFFFF and reading allowed in
--- multi-buffer mode": none of 1 to 5 applies, by the very test of a step. The number of registers is the array's type.
+-- multi-buffer mode": none of 1 to 5 applies, by the very test of a step. That there are 256 BP registers is a premise of its own.
 pub record Start (w : World) : Type 0 where
   pub passes : gateOf (w .state) (length (w .ring)) ≡ 0
   pub empty : queue w ≡ []

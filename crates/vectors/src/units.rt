@@ -2,8 +2,23 @@
 use crate::line;
 use crate::ring;
 use command::Draw;
+use fifo::Fifo;
 use running::Ran;
 use running::Stop;
+
+// A run with 256 BP registers.
+fn run_with(
+    fifo: Fifo,
+    cp: &mut [u32; 60],
+    bp: &mut [u32; 256],
+    draw: Draw,
+    ring: &[u8],
+    xf: &mut [u32],
+    buffer: &mut [u8],
+    limit: u32,
+) -> Ran {
+    running::run(fifo, cp, bp, draw, ring, xf, buffer, limit)
+}
 
 // A run off a ring that holds just these bytes, with registers whose vertices of format 0 have 12 bytes: a position of three f32.
 fn run(bytes: &[u8], draw: Draw, limit: u32) -> Ran {
@@ -20,7 +35,7 @@ fn run(bytes: &[u8], draw: Draw, limit: u32) -> Ran {
     let mut xf = [0u32; 4184];
     let mut buffer = [0u8; 129];
     let held = fed.fifo;
-    running::run(
+    run_with(
         held,
         &mut cp,
         &mut bp,

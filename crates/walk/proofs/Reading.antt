@@ -12,8 +12,8 @@ use Rattle.command.specs.Prefix.{NoUnit}
 use Rattle.command.proofs.Bounds.{look-fair}
 use Rattle.walk.specs.Flat.{Core, flatFound, Taken}
 use Rattle.walk.specs.Walk.{Walk}
-use Rattle.walk.specs.Reads.{restBy, coreBy, Reading, before, stopped, onFound, reads, readAll}
-use Rattle.walk.specs.Promises.{bytesOf, ReadsOn}
+use Rattle.walk.specs.Reads.{restBy, coreBy, StreamRead, before, stopped, onFound, reads, readAll}
+use Rattle.walk.specs.Promises.{bytesTaken, ReadsOn}
 
 -- a unit has a byte at least, and its bytes are there
 pub fair : (b : List ℕ) (s : Core) (c : List ℕ) (m l : ℕ) → flatFound b s ≡ unit c m l → (1 ≤ l) × (l ≤ length b)
@@ -56,7 +56,7 @@ opens bytes s c m l e =
     (omega arith)))
 
 -- ---- and ends where none is
-by-none : (found : Found) → NoUnit found → (s : Core) (r : Reading) → onFound found s r ≡ stopped s found
+by-none : (found : Found) → NoUnit found → (s : Core) (r : StreamRead) → onFound found s r ≡ stopped s found
 by-none (unit c m l) h s r = absurd (h c m l refl)
 by-none (waiting k) h s r = refl
 by-none (refused k) h s r = refl
@@ -65,18 +65,18 @@ pub stops : (bytes : List ℕ) (s : Core) → NoUnit (flatFound bytes s) → rea
 unfolding readAll reads
 stops bytes s h = by-none (flatFound bytes s) h s _
 
-before-before : (us vs : List Taken) (r : Reading) → before us (before vs r) ≡ before (us ++ vs) r
+before-before : (us vs : List Taken) (r : StreamRead) → before us (before vs r) ≡ before (us ++ vs) r
 before-before us vs r = ap (λ (x : List Taken). record { units = x; core = r .core; end = r .end }) (sym (append-assoc us vs (r .units)))
 
 -- units, and one more
-more-bytes : (us : List Taken) (c : List ℕ) (m l : ℕ) → bytesOf (us ++ alone c m l) ≡ bytesOf us + l
-unfolding bytesOf
+more-bytes : (us : List Taken) (c : List ℕ) (m l : ℕ) → bytesTaken (us ++ alone c m l) ≡ bytesTaken us + l
+unfolding bytesTaken
 more-bytes [] c m l = omega arith
 more-bytes (u ∷ us) c m l = omega (arith, more-bytes us c m l)
 
 -- ---- the units of a walk, one after the other
 pub walk-reads : (bytes : List ℕ) (from : ℕ) (s : Core) (n to : ℕ) (s' : Core) → Walk bytes from s n to s' → ReadsOn bytes from s n to s'
-unfolding Walk bytesOf
+unfolding Walk bytesTaken
 walk-reads bytes from s zero to s' w = record { units = []; number = refl; place = w .0 ∙ sym (add-zero from); reads-on = rw (w .0, w .1) }
 walk-reads bytes from s (suc n) to s' w =
     let r = walk-reads bytes from s n (w .place) (w .core) (w .came) in

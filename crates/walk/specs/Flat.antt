@@ -1,5 +1,5 @@
--- A stream as one list, with no ring: what it goes on with, and what a unit leaves. Refusals 1 to 3 are not tested here: they are the
--- reader's, before the first unit.
+-- "a stream as one slice, with no ring, no pointers and no feeding" (document 02, L5, which lands later): what it goes on with, and what a
+-- unit leaves. Refusals 1 to 3 are not tested here: they come before the first unit.
 use mathlib.Core.List.{List}
 use Prim.Native.Nat.{ℕ}
 use lib.ListN.{length}

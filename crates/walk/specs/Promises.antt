@@ -1,5 +1,5 @@
 -- What walks and readings promise: a reading is its units one after the other, the units of a walk are the next ones of the reading, and
--- their number determines where they lead.
+-- their number determines where they lead. Proved in proofs/Promises `walk-promises`.
 use mathlib.Core.Path.{_≡_}
 use mathlib.Core.List.{List, [], _∷_}
 use Prim.Native.Nat.{ℕ, _+_}
@@ -11,15 +11,15 @@ use Rattle.walk.specs.Walk.{Walk}
 use Rattle.walk.specs.Reads.{before, stopped, readAll}
 
 -- how many bytes units have together
-unfoldable pub bytesOf : List Taken → ℕ
-bytesOf [] = 0
-bytesOf (u ∷ us) = u .length + bytesOf us
+unfoldable pub bytesTaken : List Taken → ℕ
+bytesTaken [] = 0
+bytesTaken (u ∷ us) = u .length + bytesTaken us
 
 -- a reading from one place that goes on from another: these are the n units between
 pub record ReadsOn (bytes : List ℕ) (from : ℕ) (s : Core) (n to : ℕ) (s' : Core) : Type 0 where
   pub units : List Taken
   pub number : length units ≡ n
-  pub place : to ≡ from + bytesOf units
+  pub place : to ≡ from + bytesTaken units
   pub reads-on : readAll (drop from bytes) s ≡ before units (readAll (drop to bytes) s')
 
 -- the promises of a reading, and of a walk

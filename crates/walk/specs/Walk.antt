@@ -1,4 +1,4 @@
--- Units one after the other off a list of bytes.
+-- Units one after the other off a list of bytes: what a run takes many at a time (document 01: "it keeps the units before").
 use mathlib.Core.Path.{_≡_}
 use mathlib.Core.List.{List}
 use Prim.Native.Nat.{ℕ, zero, suc, _+_, _≤_}

@@ -103,40 +103,29 @@ module _ (f : Fifo) (draw : Draw) (l : List ℕ) (long : length l ≡ 327) where
       ∙ put-middle (fifoWords f) (take 4 (drop 7 l)) (drawWords draw) (drop 11 l) 7 refl n
       ∙ ap (λ (x : List ℕ). fifoWords f ++ (drawWords draw ++ x)) parts
 
-  -- the CP registers of a load, the BP registers of a load
-  pub cp-saved : (cp bp : List ℕ) {once out : List ℕ} → length cp ≡ 60 → once ≡ wordsBy f (cpOf l) (bpOf l) draw → out ≡ put once 11 cp
-      → out ≡ wordsAfterUnit l 0x08 f cp bp draw
-  unfolding wordsAfterUnit
-  cp-saved cp bp n e1 e2 =
+  -- the CP registers, then the BP registers
+  pub cp-saved : (cp : List ℕ) {once out : List ℕ} → length cp ≡ 60 → once ≡ wordsBy f (cpOf l) (bpOf l) draw → out ≡ put once 11 cp
+      → out ≡ wordsBy f cp (bpOf l) draw
+  cp-saved cp n e1 e2 =
       e2 ∙ ap (λ (x : List ℕ). put x 11 cp) e1 ∙ put-cp f draw (cpOf l) cp (bpOf l) (cp-length l long) n
 
-  pub bp-saved : (cp bp : List ℕ) {once out : List ℕ} → length bp ≡ 256 → once ≡ wordsBy f (cpOf l) (bpOf l) draw → out ≡ put once 71 bp
-      → out ≡ wordsAfterUnit l 0x61 f cp bp draw
-  unfolding wordsAfterUnit
-  bp-saved cp bp n e1 e2 =
-      e2 ∙ ap (λ (x : List ℕ). put x 71 bp) e1 ∙ put-bp f draw (cpOf l) (bpOf l) bp (cp-length l long) (bp-length l long) n
+  pub all-saved : (cp bp : List ℕ) {once out : List ℕ} → length cp ≡ 60 → length bp ≡ 256 → once ≡ wordsBy f cp (bpOf l) draw
+      → out ≡ put once 71 bp → out ≡ wordsBy f cp bp draw
+  all-saved cp bp n m e1 e2 =
+      e2 ∙ ap (λ (x : List ℕ). put x 71 bp) e1 ∙ put-bp f draw cp (bpOf l) bp n (bp-length l long) m
 
-  -- all of them
-  pub all-saved : (cp bp : List ℕ) {once twice out : List ℕ} → length cp ≡ 60 → length bp ≡ 256 → once ≡ wordsBy f (cpOf l) (bpOf l) draw
-      → twice ≡ put once 11 cp → out ≡ put twice 71 bp → out ≡ wordsBy f cp bp draw
-  all-saved cp bp n m e1 e2 e3 =
-      e3
-      ∙ ap (λ (x : List ℕ). put x 71 bp)
-      (e2 ∙ ap (λ (x : List ℕ). put x 11 cp) e1 ∙ put-cp f draw (cpOf l) cp (bpOf l) (cp-length l long) n)
-      ∙ put-bp f draw cp (bpOf l) bp n (bp-length l long) m
-
--- a command that loads no register of the two
-pub no-load : (c : Command) → OneOf (0 ∷ 1 ∷ 2 ∷ 4 ∷ 5 ∷ 6 ∷ 8 ∷ 9 ∷ []) (tagOf Commands.the-type c)
-    → (l : List ℕ) (f : Fifo) (cp bp : List ℕ) (draw : Draw)
-    → wordsBy f (cpOf l) (bpOf l) draw ≡ wordsAfterUnit l (kindOf (numbersOf c)) f cp bp draw
+-- a command that loads no CP register
+pub no-load : (c : Command) → OneOf (0 ∷ 1 ∷ 2 ∷ 4 ∷ 5 ∷ 6 ∷ 7 ∷ 8 ∷ 9 ∷ []) (tagOf Commands.the-type c)
+    → (l : List ℕ) (f : Fifo) (cp : List ℕ) (draw : Draw)
+    → wordsBy f (cpOf l) (bpOf l) draw ≡ wordsAfterUnit l (kindOf (numbersOf c)) f cp draw
 unfolding wordsAfterUnit
-no-load NoOperation h l f cp bp draw = refl
-no-load InvalidateCache h l f cp bp draw = refl
-no-load Metrics h l f cp bp draw = refl
-no-load (LoadCp a n) h l f cp bp draw = absurd (miss (0 ∷ 1 ∷ 2 ∷ 4 ∷ 5 ∷ 6 ∷ 8 ∷ 9 ∷ []) 3 tt h)
-no-load (LoadXf w a) h l f cp bp draw = refl
-no-load (LoadIndexed a i w x) h l f cp bp draw = refl
-no-load (CallList a n) h l f cp bp draw = refl
-no-load (LoadBp r n) h l f cp bp draw = absurd (miss (0 ∷ 1 ∷ 2 ∷ 4 ∷ 5 ∷ 6 ∷ 8 ∷ 9 ∷ []) 7 tt h)
-no-load (DrawHead p g n) h l f cp bp draw = refl
-no-load Vertex h l f cp bp draw = refl
+no-load NoOperation h l f cp draw = refl
+no-load InvalidateCache h l f cp draw = refl
+no-load Metrics h l f cp draw = refl
+no-load (LoadCp a n) h l f cp draw = absurd (miss (0 ∷ 1 ∷ 2 ∷ 4 ∷ 5 ∷ 6 ∷ 7 ∷ 8 ∷ 9 ∷ []) 3 tt h)
+no-load (LoadXf w a) h l f cp draw = refl
+no-load (LoadIndexed a i w x) h l f cp draw = refl
+no-load (CallList a n) h l f cp draw = refl
+no-load (LoadBp r n) h l f cp draw = refl
+no-load (DrawHead p g n) h l f cp draw = refl
+no-load Vertex h l f cp draw = refl

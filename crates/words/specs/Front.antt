@@ -18,6 +18,7 @@ fits l = ltb (getD l 6 0) (2 ^ 16) && (eqb (getD l 7 0) 0 || (ltb (getD l 8 0) (
 unfoldable pub frontOf : List ℕ → Front
 frontOf l = cond (fits l) (Held (fifoOf l) (drawOf l)) Wide
 
--- the words after a unit whose command has this kind: of the registers only those that it loads are stored, and the others stay
-unfoldable pub wordsAfterUnit : List ℕ → ℕ → Fifo → List ℕ → List ℕ → Draw → List ℕ
-wordsAfterUnit l kind f cp bp draw = wordsBy f (cond (eqb kind 0x08) cp (cpOf l)) (cond (eqb kind 0x61) bp (bpOf l)) draw
+-- the words after a unit whose command has this kind: where that is a CP load the 60 CP registers are stored, and else they stay; the BP
+-- registers are what the words say
+unfoldable pub wordsAfterUnit : List ℕ → ℕ → Fifo → List ℕ → Draw → List ℕ
+wordsAfterUnit l kind f cp draw = wordsBy f (cond (eqb kind 0x08) cp (cpOf l)) (bpOf l) draw

@@ -13,6 +13,11 @@ ghost use Rattle.words.specs.State.{windowOf, fifoOf, leftOf, cpOf, bpOf
 ghost use Rattle.words.specs.State.{windowWords, fifoWords, drawWords, wordsBy, fifoStored};
 ghost use Rattle.words.specs.Front.{frontOf, wordsAfterUnit};
 
+// The places of the CP registers, words 11 to 70, and of the BP registers, words 71 to 326.
+const CP_PLACE: usize = 11;
+
+pub const BP_PLACE: usize = 71;
+
 // Words 0 to 10 in the types of the fifo and the draw, or too wide for them.
 pub enum Front {
     Held { fifo: Fifo, draw: Draw },
@@ -103,17 +108,8 @@ pub fn cp(words: &[u32; 327]) -> [u32; 60]
     ensures { λ r. ⌜ r ≡ cpOf (now (words .entry)) ⌝ }
 {
     let mut cp = [0u32; 60];
-    fill(&mut cp, words, 11);
+    fill(&mut cp, words, CP_PLACE);
     cp
-}
-
-// Words 71 to 326.
-pub fn bp(words: &[u32; 327]) -> [u32; 256]
-    ensures { λ r. ⌜ r ≡ bpOf (now (words .entry)) ⌝ }
-{
-    let mut bp = [0u32; 256];
-    fill(&mut bp, words, 71);
-    bp
 }
 
 // Words 0 to 5.
@@ -196,31 +192,29 @@ fn save_front(state: &mut [u32; 327], fifo: Fifo, draw: Draw)
     store(state, 7, &drawn);
 }
 
+// Writes words 0 to 70: all before the BP registers.
+pub fn save_before_bp(state: &mut [u32; 327], fifo: Fifo, cp: &[u32; 60], draw: Draw)
+    ensures { λ _. ⌜ now (state .exit) ≡ wordsBy fifo (now (cp .entry)) (bpOf (now (state .entry))) draw ⌝ }
+{
+    save_front(state, fifo, draw);
+    store(state, CP_PLACE, cp);
+}
+
 // Writes all words.
 pub fn save(state: &mut [u32; 327], fifo: Fifo, cp: &[u32; 60], bp: &[u32; 256], draw: Draw)
     ensures { λ _. ⌜ now (state .exit) ≡ wordsBy fifo (now (cp .entry)) (now (bp .entry)) draw ⌝ }
 {
     save_front(state, fifo, draw);
-    store(state, 11, cp);
-    store(state, 71, bp);
+    store(state, CP_PLACE, cp);
+    store(state, BP_PLACE, bp);
 }
 
-// Writes words 0 to 10, and the registers that a command loads, if any.
-pub fn save_unit(
-    state: &mut [u32; 327],
-    command: Command,
-    fifo: Fifo,
-    cp: &[u32; 60],
-    bp: &[u32; 256],
-    draw: Draw,
-)
-    ensures { λ _. ⌜ now (state .exit)
-        ≡ wordsAfterUnit (now (state .entry)) (kindOf (numbersOf command)) fifo (now (cp .entry)) (now (bp .entry)) draw ⌝ }
+// Writes words 0 to 10, and the CP registers where a command loads one.
+pub fn save_unit(state: &mut [u32; 327], command: Command, fifo: Fifo, cp: &[u32; 60], draw: Draw)
+    ensures { λ _. ⌜ now (state .exit) ≡ wordsAfterUnit (now (state .entry)) (kindOf (numbersOf command)) fifo (now (cp .entry)) draw ⌝ }
 {
     save_front(state, fifo, draw);
-    match command {
-        Command::LoadCp { .. } => store(state, 11, cp),
-        Command::LoadBp { .. } => store(state, 71, bp),
-        _ => {}
+    if let Command::LoadCp { .. } = command {
+        store(state, CP_PLACE, cp);
     }
 }

@@ -41,11 +41,8 @@ returns-2 c =
 cp-requires : tie.Need-cp-requires
 cp-requires c κs = search needs
 
-bp-requires : tie.Need-bp-requires
-bp-requires c κs = search needs
-
-run-requires : tie.Need-run-requires
-run-requires c κs = search needs
+run-words-requires : tie.Need-run-words-requires
+run-words-requires c κs = search needs
 
 stop-lacking-requires : tie.Need-stop-lacking-requires
 stop-lacking-requires c κs = search needs
@@ -62,20 +59,18 @@ same-length-2 c = search needs
 returns-3 : tie.Need-returns-3
 returns-3 c =
     let p = c .before .before .before .before .before .before .before in
-    let b = p .before .before .before .before .before in
-    let q = b .before .before in
+    let q = p .before .before .before .before .before in
     let f = q .before .before .before .before in
     let r = f .before .before in
     let a = r .before .before .before .before .before .args in
     let h = sym (f .front .given .1) ∙ r .read-front .ensures in
-    let s = handed (a .state .now) (a .xf .now) (a .vertex .now) h (q .cp .ensures) (b .bp .ensures) in
+    let s = handed (a .state .now) (a .xf .now) (a .vertex .now) h (q .cp .ensures) refl in
     rw (← s)
-    (run-none (a .ring .now) (a .limit) _ (a .state .now) (p .run .ensures) (c .stop-number .ensures)
-    (c .before .before .stop-lacking .ensures)
-    refl (c .before .if2 .taken))
+    (run-none (a .ring .now) (a .limit) _ (a .state .now) _ (p .run-words .ensures .0) (c .stop-number .ensures)
+    (c .before .before .stop-lacking .ensures) refl refl (p .run-words .ensures .1) (c .before .if2 .taken))
 
-save-requires : tie.Need-save-requires
-save-requires c κs = search needs
+save-before-bp-requires : tie.Need-save-before-bp-requires
+save-before-bp-requires c κs = search needs
 
 stop-number-requires-2 : tie.Need-stop-number-requires-2
 stop-number-requires-2 c κs = search needs
@@ -88,18 +83,17 @@ same-length-4 c = search needs
 
 returns-4 : tie.Need-returns-4
 returns-4 c =
-    let p = c .before .before .before .before .before .before .before .before .before .before .before .before in
-    let b = p .before .before .before .before .before in
-    let q = b .before .before in
+    let p = c .before .before .before .before .before .before .before .before .before .before .before in
+    let q = p .before .before .before .before .before in
     let f = q .before .before .before .before in
     let r = f .before .before in
     let a = r .before .before .before .before .before .args in
     let h = sym (f .front .given .1) ∙ r .read-front .ensures in
-    let s = handed (a .state .now) (a .xf .now) (a .vertex .now) h (q .cp .ensures) (b .bp .ensures) in
+    let s = handed (a .state .now) (a .xf .now) (a .vertex .now) h (q .cp .ensures) refl in
     rw (← s)
-    (run-some (a .ring .now) (a .limit) _ (a .state .now) (p .run .ensures) (c .stop-number2 .ensures)
-    (c .before .before .before .before .before .before .before .stop-lacking .ensures)
-    refl (c .before .before .before .before .before .before .if2 .left) (c .before .save .ensures))
+    (run-some (a .ring .now) (a .limit) _ (a .state .now) _ (p .run-words .ensures .0) (c .stop-number2 .ensures)
+    (c .before .before .before .before .before .before .stop-lacking .ensures) refl
+    (c .before .before .before .before .before .if2 .left) (c .before .save-before-bp .ensures))
 
 pub duckhammock-run-spec : {M : Type 1} → statement M
 duckhammock-run-spec =
@@ -113,14 +107,13 @@ duckhammock-run-spec =
     gate-number-requires
     returns-2
     cp-requires
-    bp-requires
-    run-requires
+    run-words-requires
     stop-lacking-requires
     stop-number-requires
     same-length
     same-length-2
     returns-3
-    save-requires
+    save-before-bp-requires
     stop-number-requires-2
     same-length-3
     same-length-4

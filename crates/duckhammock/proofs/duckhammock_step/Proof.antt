@@ -1,5 +1,5 @@
 -- `duckhammock::duckhammock_step` meets its contract: it is a step of the state that the words say; they are stored where a unit was done.
-use mathlib.Core.Path.{sym, _∙_}
+use mathlib.Core.Path.{refl, sym, _∙_}
 use Rattle.words.specs.State.{stateAt}
 use Rattle.words.proofs.Fits.{wide-refused}
 use Rattle.duckhammock.proofs.Units.{handed, none, step-wide, step-none, step-done}
@@ -30,11 +30,8 @@ returns c =
 cp-requires : tie.Need-cp-requires
 cp-requires c κs = search needs
 
-bp-requires : tie.Need-bp-requires
-bp-requires c κs = search needs
-
-step-requires : tie.Need-step-requires
-step-requires c κs = search needs
+step-words-requires : tie.Need-step-words-requires
+step-words-requires c κs = search needs
 
 enum-known-answer : tie.Need-enum-known-answer
 enum-known-answer c = search needs
@@ -51,17 +48,15 @@ same-length-2 c = search needs
 returns-2 : tie.Need-returns-2
 returns-2 c =
     let p = c .before .before .before .before .before .before .before in
-    let b = p .before .before .before .before .before in
-    let q = b .before .before in
+    let q = p .before .before .before .before .before in
     let f = q .before .before .before in
     let r = f .before .before in
     let a = r .before .before .before .before .before .args in
     let h = sym (f .front .given .1) ∙ r .read-front .ensures in
-    let s = handed (a .state .now) (a .xf .now) (a .vertex .now) h (q .cp .ensures) (b .bp .ensures) in
+    let s = handed (a .state .now) (a .xf .now) (a .vertex .now) h (q .cp .ensures) refl in
     rw (← s)
-    (step-none (a .ring .now) _ (a .state .now) (a .unit .now) (a .lacking .now) (p .step .ensures)
-    (none _ (c .before .before .match2 .keys2))
-    (c .tell-step .ensures))
+    (step-none (a .ring .now) _ (a .state .now) (a .unit .now) (a .lacking .now) refl (p .step-words .ensures .0)
+    (p .step-words .ensures .1) (none _ (c .before .before .match2 .keys2)) (c .tell-step .ensures))
 
 save-unit-requires : tie.Need-save-unit-requires
 save-unit-requires c κs = search needs
@@ -77,18 +72,17 @@ same-length-4 c = search needs
 
 returns-3 : tie.Need-returns-3
 returns-3 c =
-    let d = c .before .before .before .before .before .before .before in
+    let d = c .before .before .before .before .before .before in
     let p = d .before .before .before .before .before .before in
-    let b = p .before .before .before .before .before in
-    let q = b .before .before in
+    let q = p .before .before .before .before .before in
     let f = q .before .before .before in
     let r = f .before .before in
     let a = r .before .before .before .before .before .args in
     let h = sym (f .front .given .1) ∙ r .read-front .ensures in
-    let s = handed (a .state .now) (a .xf .now) (a .vertex .now) h (q .cp .ensures) (b .bp .ensures) in
+    let s = handed (a .state .now) (a .xf .now) (a .vertex .now) h (q .cp .ensures) refl in
     rw (← s)
-    (step-done (a .ring .now) _ (a .state .now) (a .unit .now) (a .lacking .now) _ _ _ (q .cp .ensures) (b .bp .ensures)
-    (p .step .ensures) (d .answer .given .1) (c .before .save-unit .ensures) (c .unit-words .ensures))
+    (step-done (a .ring .now) _ (a .state .now) (a .unit .now) (a .lacking .now) _ _ _ (q .cp .ensures)
+    (p .step-words .ensures .0) (p .step-words .ensures .1) (d .answer .given .1) (c .before .save-unit .ensures) (c .unit-words .ensures))
 
 pub duckhammock-step-spec : {M : Type 1} → statement M
 duckhammock-step-spec =
@@ -100,8 +94,7 @@ duckhammock-step-spec =
     refused-requires
     returns
     cp-requires
-    bp-requires
-    step-requires
+    step-words-requires
     enum-known-answer
     tell-step-requires
     same-length

@@ -47,11 +47,14 @@ enum-told-6 c = search needs
 enum-told-7 : tie.Need-enum-told-7
 enum-told-7 c = search needs
 
-returns : tie.Need-returns
-returns c = rw (c .before .before .before .command .given .1) (by-bp (c .load-bp .ensures))
-
 same-length : tie.Need-same-length
 same-length c = search needs
+
+returns : tie.Need-returns
+returns c = rw (c .before .before .before .before .before .command .given .1) (by-bp (c .before .before .load-bp .ensures))
+
+same-length-2 : tie.Need-same-length-2
+same-length-2 c = search needs
 
 returns-2 : tie.Need-returns-2
 returns-2 c =
@@ -60,8 +63,8 @@ returns-2 c =
 returns-3 : tie.Need-returns-3
 returns-3 c = rw (c .before .before .before .command3 .given .1) (by-cp (c .load-cp .ensures))
 
-same-length-2 : tie.Need-same-length-2
-same-length-2 c = search needs
+same-length-3 : tie.Need-same-length-3
+same-length-3 c = search needs
 
 returns-4 : tie.Need-returns-4
 returns-4 c =
@@ -103,11 +106,12 @@ apply-spec =
     enum-told-5
     enum-told-6
     enum-told-7
-    returns
     same-length
+    returns
+    same-length-2
     returns-2
     returns-3
-    same-length-2
+    same-length-3
     returns-4
     returns-5
     returns-6

@@ -4,43 +4,43 @@ use borrow.Author.Needs.{needs}
 use Rattle.effect.proofs.load_bp.Statement.{statement}
 use Rattle.effect.proofs.load_bp.Tie as tie
 
-element-copy-out-mask : tie.Need-element-copy-out-mask
-element-copy-out-mask c = search needs
+held-requires : tie.Need-held-requires
+held-requires c κs = search needs
 
-mul-old : tie.Need-mul-old
-mul-old c = search needs
-
-element-copy-out-old : tie.Need-element-copy-out-old
-element-copy-out-old c = search needs
+held-requires-2 : tie.Need-held-requires-2
+held-requires-2 c κs = search needs
 
 replace-bits-requires : tie.Need-replace-bits-requires
 replace-bits-requires c κs = search needs
 
-mul-bp : tie.Need-mul-bp
-mul-bp c = search needs
-
-element-write-bp : tie.Need-element-write-bp
-element-write-bp c = search needs
+hold-requires : tie.Need-hold-requires
+hold-requires c κs = search needs
 
 chosen-requires : tie.Need-chosen-requires
 chosen-requires c κs = search needs
 
-element-write-bp-2 : tie.Need-element-write-bp-2
-element-write-bp-2 c = search needs
+hold-requires-2 : tie.Need-hold-requires-2
+hold-requires-2 c κs = search needs
+
+same-length : tie.Need-same-length
+same-length c = search needs
 
 returns : tie.Need-returns
-returns c = mask-stored _ _ _ _ _ (c .before .replace-bits .ensures) (c .chosen .ensures)
+returns c =
+    let q = c .before .before .before .before .before .before .before .before .before in
+    mask-stored _ _ _ (q .before .before .before .held .ensures) (q .before .held2 .ensures) (q .replace-bits .ensures)
+    (c .before .before .before .chosen .ensures)
+    (c .before .before .before .before .before .before .before .hold .ensures) (c .before .before .hold2 .ensures)
 
 pub load-bp-spec : {M : Type 1} → statement M
 load-bp-spec =
     tie.close
     (tie.spec
-    element-copy-out-mask
-    mul-old
-    element-copy-out-old
+    held-requires
+    held-requires-2
     replace-bits-requires
-    mul-bp
-    element-write-bp
+    hold-requires
     chosen-requires
-    element-write-bp-2
+    hold-requires-2
+    same-length
     returns)

@@ -1,7 +1,7 @@
 -- `effect::store_xf` meets its contract: after i words, four at a time and then one, the first i words are stored.
 use mathlib.Core.Path.{_≡_, refl, ap, _∙_}
 use mathlib.Core.List.{List}
-use Prim.Native.Nat.{ℕ, _-_, _≤_}
+use Prim.Native.Nat.{ℕ, _-_, _%_, _≤_}
 use native.Mathlib.Numerals.{add-one}
 use native.Mathlib.Omega.{arith}
 use lib.ListN.{length, length-set}
@@ -12,24 +12,25 @@ use Rattle.effect.proofs.store_xf.Statement.{statement}
 use Rattle.effect.proofs.store_xf.Tie as tie
 
 abbrev Inv-loop : tie.InvT-loop
-Inv-loop xf₀ bytes address words i₀ xf i = (i ≤ words) × (length xf ≡ length xf₀) × (xf ≡ storedXf xf₀ bytes address i)
+Inv-loop xf₀ bytes address words fours i₀ xf i =
+    ((i ≤ words) × (i % 4 ≡ 0)) × (length xf ≡ length xf₀) × (xf ≡ storedXf xf₀ bytes address i)
 
 abbrev μ-loop : tie.MeasureT-loop
-μ-loop xf₀ bytes address words i₀ xf i = words - i
+μ-loop xf₀ bytes address words fours i₀ xf i = words - i
 
 abbrev Inv-loop2 : tie.InvT-loop2
-Inv-loop2 xf₀ bytes address words i₀ xf i =
+Inv-loop2 xf₀ bytes address words fours i₀ xf i =
     (i ≤ words) × (length xf ≡ length xf₀) × ((z : List ℕ) → xf₀ ≡ storedXf z bytes address i₀ → xf ≡ storedXf z bytes address i)
 
 abbrev μ-loop2 : tie.MeasureT-loop2
-μ-loop2 xf₀ bytes address words i₀ xf i = words - i
+μ-loop2 xf₀ bytes address words fours i₀ xf i = words - i
+
+sub-fours : tie.Need-sub-fours Inv-loop μ-loop Inv-loop2 μ-loop2
+sub-fours c = search needs
 
 loop-holds : tie.Need-loop-holds Inv-loop μ-loop Inv-loop2 μ-loop2
 unfolding storedXf
-loop-holds c = (omega arith, refl, refl)
-
-sub-loop : tie.Need-sub-loop Inv-loop μ-loop Inv-loop2 μ-loop2
-sub-loop c = search needs
+loop-holds c = ((omega arith, omega arith), refl, refl)
 
 add-store-four : tie.Need-add-store-four Inv-loop μ-loop Inv-loop2 μ-loop2
 add-store-four c = omega arith
@@ -53,13 +54,13 @@ loop-again : tie.Need-loop-again Inv-loop μ-loop Inv-loop2 μ-loop2
 loop-again c =
     let l = c .before .before .before .before .before .loop in
     let e = c .before .before .store-four .ensures in (
-      omega arith,
+      (omega arith, omega arith),
       ap length e ∙ length-four _ _ _ _ ∙ l .inv .1,
       e ∙ four-more _ _ _ _ (l .inv .2),
     )
 
 loop2-holds : tie.Need-loop2-holds Inv-loop μ-loop Inv-loop2 μ-loop2
-loop2-holds c = (c .before .loop .inv .0, refl, λ z e. e)
+loop2-holds c = (c .before .loop .inv .0 .0, refl, λ z e. e)
 
 mul-word-at : tie.Need-mul-word-at Inv-loop μ-loop Inv-loop2 μ-loop2
 mul-word-at c = omega arith
@@ -112,8 +113,8 @@ store-xf-spec =
     μ-loop
     Inv-loop2
     μ-loop2
+    sub-fours
     loop-holds
-    sub-loop
     add-store-four
     mul-store-four
     add-store-four-2

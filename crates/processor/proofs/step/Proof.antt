@@ -27,25 +27,29 @@ take-at-requires c κs = search needs
 close-requires : tie.Need-close-requires
 close-requires c κs = search needs
 
+same-length : tie.Need-same-length
+same-length c = search needs
+
 returns : tie.Need-returns
 returns c =
     steps-refused _ _ _ _ _ _ _ _ (sym (ap meaningOfGate (c .before .gate .given .1)) ∙ c .before .before .before .pass .ensures)
 
-same-length : tie.Need-same-length
-same-length c = search needs
-
 same-length-2 : tie.Need-same-length-2
 same-length-2 c = search needs
 
+same-length-3 : tie.Need-same-length-3
+same-length-3 c = search needs
+
+same-length-4 : tie.Need-same-length-4
+same-length-4 c = search needs
+
 returns-2 : tie.Need-returns-2
 returns-2 c =
-    let t = c .before .before .before .before .before .before in
+    let t = c .before .before .before .before .before .before .before .before in
     let o = t .before .before .before .before .before in
-    let told = o .before in
-    let p = told .before .before in
-    let a = p .before .before .before .before .before .before .args in
+    let a = o .before .before .before .before .before .before .before .before .before .before .args in
     let s : State = stateOf (a .fifo) (a .cp .now) (a .bp .now) (a .draw) (a .xf .now) (a .buffer .now) in
-    let g = passed _ (sym (ap meaningOfGate (told .enum-told .given .1)) ∙ p .pass .ensures) in
+    let g = passed _ (sym (ap meaningOfGate (o .before .enum-told .given .1)) ∙ o .before .before .before .pass .ensures) in
     let k = gate-passes s _ g in
     steps-taken _ s g (takes-opened _ s (k .ready) (o .open .ensures) (t .take-at .ensures)) (c .close .ensures)
 
@@ -59,7 +63,9 @@ step-spec =
     open-requires
     take-at-requires
     close-requires
-    returns
     same-length
+    returns
     same-length-2
+    same-length-3
+    same-length-4
     returns-2)

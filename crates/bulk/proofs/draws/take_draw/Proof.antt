@@ -1,9 +1,11 @@
 -- `bulk::take_draw` meets its contract: the head is a unit, and then each of its vertices that are taken.
+use mathlib.Core.Path.{refl}
 use mathlib.Core.List.{[]}
 use Prim.Native.Nat.{_%_}
 use native.Mathlib.Omega.{arith}
 use Rattle.command.proofs.Decided.{bytes-most}
 use Rattle.walk.proofs.Walks.{moves-none}
+use Rattle.bulk.proofs.Told.{told-closed, told-left}
 use Rattle.bulk.proofs.Drawn.{head-moves}
 use borrow.Author.Needs.{needs}
 use Rattle.bulk.proofs.draws.take_draw.Statement.{statement}
@@ -13,7 +15,7 @@ sub-if1 : tie.Need-sub-if1
 sub-if1 c = search needs
 
 returns : tie.Need-returns
-returns c = record { any = λ _ _. moves-none; known = c .before .before .before .pre .1 .1 .1 .1 .1 }
+returns c = (record { any = λ _ _. moves-none; known = c .before .before .before .pre .1 .1 .1 .1 .1 }, told-closed refl)
 
 size-of-requires : tie.Need-size-of-requires
 size-of-requires c κs = search needs
@@ -22,7 +24,7 @@ cast-size : tie.Need-cast-size
 cast-size c = search needs
 
 returns-2 : tie.Need-returns-2
-returns-2 c = record { any = λ _ _. moves-none; known = c .before .size-of .ensures .known }
+returns-2 c = (record { any = λ _ _. moves-none; known = c .before .size-of .ensures .known }, told-closed refl)
 
 add-half : tie.Need-add-half
 add-half c = search needs
@@ -47,47 +49,60 @@ sub-take-vertices c = search needs
 
 take-vertices-requires : tie.Need-take-vertices-requires
 take-vertices-requires c κs =
-    let c4 = c .before .before .before .before in
-    let c5 = c4 .before in
-    let c7 = c5 .before .before in
-    let c10 = c7 .before .before .before in
-    let p = c10 in
-    let z = c5 .size-of in (
-      omega (arith, c7 .if1 .left, p .pre .0),
-      (omega (arith, c4 .if2 .left), omega (arith, z .ensures .size-is, bytes-most (p .args .cp .now) (p .args .op % 8))),
+    let b = c .before .before .before .before in
+    let z = b .before .size-of in (
+      omega (arith, b .before .before .before .if1 .left, b .before .before .before .before .before .before .pre .0),
+      (
+        omega (arith, b .if2 .left),
+        omega (
+          arith,
+          z .ensures .size-is,
+          bytes-most (b .before .before .before .before .before .before .args .cp .now)
+              (b .before .before .before .before .before .before .args .op % 8),
+        ),
+      ),
     )
 
 add-t17 : tie.Need-add-t17
 add-t17 c =
-    let c3 = c .before .before .before in
-    let c9 = c3 .before .before .before .before .before .before in
-    let c14 = c9 .before .before .before .before .before in
-    let p = c14 in
-    let v = c3 .take-vertices .ensures .any (p .args .cp .now) [] [] (c9 .size-of .ensures .size-is) in
-    record { fits = omega (arith, v .within, p .fits .most, p .pre .1 .1 .1 .1 .0) }
+    let b = c .before .before .before .before .before .before .before .before .before in
+    let v = c .before .before .before .take-vertices .ensures .0 .any (b .before .before .before .before .before .args .cp .now) [] []
+    (b .size-of .ensures .size-is) in
+    record {
+      fits = omega (
+        arith,
+        v .within,
+        b .before .before .before .before .before .fits .most,
+        b .before .before .before .before .before .pre .1 .1 .1 .1 .0,
+      );
+    }
 
 same-length : tie.Need-same-length
 same-length c = search needs
 
 returns-3 : tie.Need-returns-3
 returns-3 c =
-    let p = c .before .before .before .before .before .before .before .before .before .before .before .before .before .before .pre in
-    let z = c .before .before .before .before .before .before .before .before .before .size-of .ensures in
-    record {
-      any = λ bp xf.
-          head-moves bp xf
-          (record {
-            whole = c .before .before .before .before .before .before .before .before .before .before .before .if1 .left;
-            opcode = p .1 .0;
-            low = p .1 .1 .0;
-            high = p .1 .1 .1 .0;
-            size-is = z .size-is;
-            some = omega (arith, c .before .before .before .before .before .before .before .before .if2 .left);
-            count-is = c .before .before .before .before .before .half .ensures;
-          })
-          (p .1 .1 .1 .1 .0) (c .before .before .before .take-vertices .ensures);
-      known = z .known;
-    }
+    let b = c .before .before .before .before .before in
+    let p = b .before .before .before .before .before .before .before .before .before .pre in
+    let z = b .before .before .before .before .size-of .ensures in
+    let v = c .before .before .before .take-vertices .ensures in (
+      record {
+        any = λ bp xf.
+            head-moves bp xf
+            (record {
+              whole = b .before .before .before .before .before .before .if1 .left;
+              opcode = p .1 .0;
+              low = p .1 .1 .0;
+              high = p .1 .1 .1 .0;
+              size-is = z .size-is;
+              some = omega (arith, b .before .before .before .if2 .left);
+              count-is = b .half .ensures;
+            })
+            (p .1 .1 .1 .1 .0) (v .0);
+        known = z .known;
+      },
+      told-left (v .1) (z .size-is),
+    )
 
 pub take-draw-spec : {M : Type 1} → statement M
 take-draw-spec =

@@ -1,4 +1,6 @@
 -- `bulk::take_vertices` meets its contract: as many as are whole, left and allowed; the last of them is copied.
+use mathlib.Core.Path.{refl}
+use Prim.Native.Nat.{_-_}
 use native.Mathlib.Omega.{arith}
 use Rattle.bulk.proofs.Drawn.{one-fits, vertices-none, vertices-some}
 use borrow.Author.Needs.{needs}
@@ -20,8 +22,14 @@ sub-draw-of c = search needs
 draw-of-requires : tie.Need-draw-of-requires
 draw-of-requires c κs = search needs
 
+cast-t18 : tie.Need-cast-t18
+cast-t18 c = search needs
+
 returns : tie.Need-returns
-returns c = vertices-none (c .if1 .taken) (c .before .draw-of .ensures)
+returns c =
+    let d = c .before .draw-of .ensures in
+    let left = c .before .before .before .before .before .args .left - c .before .before .whole .result in
+    (vertices-none (c .if1 .taken) d, record { left = left; draw-is = d; size-is = refl })
 
 copy-last-requires : tie.Need-copy-last-requires
 copy-last-requires c κs =
@@ -30,8 +38,8 @@ copy-last-requires c κs =
     let one = one-fits (w .result) (c .before .before .before .before .before .before .args .size) (omega arith) in
     (omega arith, omega (arith, w .ensures .inside, one))
 
-cast-t21 : tie.Need-cast-t21
-cast-t21 c = search needs
+cast-t22 : tie.Need-cast-t22
+cast-t22 c = search needs
 
 mul-t11 : tie.Need-mul-t11
 mul-t11 c = search needs
@@ -39,18 +47,22 @@ mul-t11 c = search needs
 add-t12 : tie.Need-add-t12
 add-t12 c = search needs
 
+cast-t23 : tie.Need-cast-t23
+cast-t23 c = search needs
+
 same-length : tie.Need-same-length
 same-length c = search needs
 
 returns-2 : tie.Need-returns-2
 returns-2 c =
-    let c4 = c .before .before .before .before in
-    let c5 = c4 .before in
-    let c6 = c5 .before in
-    let c9 = c6 .before .before .before in
-    let w = c6 .whole in
-    let p = c9 .pre in
-    vertices-some (w .result) (p .0) (p .1 .0) (c4 .if1 .left) (w .ensures) (c5 .draw-of .ensures) (c .before .before .copy-last .ensures)
+    let b = c .before .before .before .before in
+    let w = b .before .before .whole in
+    let p = b .before .before .before .before .before .pre in
+    let left = b .before .before .before .before .before .args .left - w .result in
+    let d = b .before .draw-of .ensures in (
+      vertices-some (w .result) (p .0) (p .1 .0) (b .if1 .left) (w .ensures) d (c .before .before .copy-last .ensures),
+      record { left = left; draw-is = d; size-is = refl },
+    )
 
 pub take-vertices-spec : {M : Type 1} → statement M
 take-vertices-spec =
@@ -61,10 +73,12 @@ take-vertices-spec =
     cast-draw-of
     sub-draw-of
     draw-of-requires
+    cast-t18
     returns
     copy-last-requires
-    cast-t21
+    cast-t22
     mul-t11
     add-t12
+    cast-t23
     same-length
     returns-2)

@@ -1,4 +1,5 @@
 -- `plain::take_bp` meets its contract: after so many turns that many loads led from the first place to this one.
+use mathlib.Core.Path.{_≡_, refl}
 use Prim.Native.Nat.{_-_, _≤_}
 use native.Mathlib.Omega.{arith}
 use lib.ListN.{length}
@@ -10,7 +11,8 @@ use Rattle.plain.proofs.loads.take_bp.Statement.{statement}
 use Rattle.plain.proofs.loads.take_bp.Tie as tie
 
 abbrev Inv-loop : tie.InvT-loop
-Inv-loop bytes from bp₀ most at₀ units₀ bp at units = (at ≤ length bytes) × ((units ≤ most) × MovesBp bytes from bp₀ most units at bp)
+Inv-loop bytes from bp₀ most at₀ units₀ bp at units =
+    (length bp ≡ length bp₀) × (((from ≤ at) × (at ≤ length bytes)) × ((units ≤ most) × MovesBp bytes from bp₀ most units at bp))
 
 abbrev μ-loop : tie.MeasureT-loop
 μ-loop bytes from bp₀ most at₀ units₀ bp at units = most - units
@@ -19,19 +21,25 @@ returns : tie.Need-returns Inv-loop μ-loop
 returns c = record { any = λ _ _ _. moves-none }
 
 loop-holds : tie.Need-loop-holds Inv-loop μ-loop
-loop-holds c = (c .if1 .left, (omega arith, record { any = λ _ _ _. moves-none }))
+loop-holds c = (refl, ((omega arith, c .if1 .left), (omega arith, record { any = λ _ _ _. moves-none })))
 
 sub-if2 : tie.Need-sub-if2 Inv-loop μ-loop
 sub-if2 c = search needs
 
+same-length : tie.Need-same-length Inv-loop μ-loop
+same-length c = search needs
+
 returns-2 : tie.Need-returns-2 Inv-loop μ-loop
-returns-2 c = c .before .before .loop .inv .1 .1
+returns-2 c = c .before .before .loop .inv .1 .1 .1
 
 shared-slice-read-if3 : tie.Need-shared-slice-read-if3 Inv-loop μ-loop
 shared-slice-read-if3 c = search needs
 
+same-length-2 : tie.Need-same-length-2 Inv-loop μ-loop
+same-length-2 c = search needs
+
 returns-3 : tie.Need-returns-3 Inv-loop μ-loop
-returns-3 c = c .before .before .before .before .loop .inv .1 .1
+returns-3 c = c .before .before .before .before .loop .inv .1 .1 .1
 
 add-word : tie.Need-add-word Inv-loop μ-loop
 add-word c = search needs
@@ -77,25 +85,30 @@ loop-less c = search needs
 
 loop-again : tie.Need-loop-again Inv-loop μ-loop
 loop-again c =
-    let c6 = c .before .before .before .before .before .before in
-    let b = c6 in
-    let l = b .before .before .before .before .before .loop in
-    let w = c .before .before .word in (
-      omega arith,
+    let w = c .before .before .before .before .word in
+    let b = c .before .before .before .before .before .before .before .before in
+    let l = b .before .before .before .before .before .loop in (
+      search needs,
       (
-        omega arith,
-        record {
-          any = λ cp xf buffer.
-              moves-next (l .inv .1 .1 .any cp xf buffer) (b .before .before .before .before .loop-test .taken) (omega arith)
-              (one-bp _ (λ k. b .before .before .before .before .before .before .before .shared-slice-known .given k .fits) (l .at)
-              (b .before .before .before .if2 .left) (b .before .if3 .left) (w .result) (w .ensures)
-              (c .load-bp .ensures) cp xf buffer);
-        },
+        (omega arith, omega arith),
+        (
+          omega arith,
+          record {
+            any = λ cp xf buffer.
+                moves-next (l .inv .1 .1 .1 .any cp xf buffer) (b .before .before .before .before .loop-test .taken) (omega arith)
+                (one-bp _ (λ k. b .before .before .before .before .before .before .before .before .shared-slice-known .given k .fits)
+                (l .at) (b .before .before .before .if2 .left) (b .before .if3 .left)
+                (w .result) (w .ensures) (c .before .before .load-bp .ensures) cp xf buffer);
+          },
+        ),
       ),
     )
 
+same-length-3 : tie.Need-same-length-3 Inv-loop μ-loop
+same-length-3 c = search needs
+
 returns-4 : tie.Need-returns-4 Inv-loop μ-loop
-returns-4 c = c .before .loop .inv .1 .1
+returns-4 c = c .before .loop .inv .1 .1 .1
 
 pub take-bp-spec : {M : Type 1} → statement M
 take-bp-spec =
@@ -106,8 +119,10 @@ take-bp-spec =
     returns
     loop-holds
     sub-if2
+    same-length
     returns-2
     shared-slice-read-if3
+    same-length-2
     returns-3
     add-word
     shared-slice-read-word
@@ -124,4 +139,5 @@ take-bp-spec =
     add-units
     loop-less
     loop-again
+    same-length-3
     returns-4)

@@ -13,7 +13,7 @@ use Rattle.processor.proofs.taking.execute.Statement.{statement}
 use Rattle.processor.proofs.taking.execute.Tie as tie
 
 abbrev start-of : tie.Then1 → tie.Start
-start-of t = t .before .before .before .before .before .before
+start-of t = t .before .before .before .before .before .before .before
 
 -- the part ends within the ring
 within : (t : tie.Then1) → start-of t .args .cursor .at + start-of t .args .n ≤ length (start-of t .args .ring .now)
@@ -46,13 +46,15 @@ same-length c = search needs
 same-length-2 : tie.Need-same-length-2
 same-length-2 c = search needs
 
+same-length-3 : tie.Need-same-length-3
+same-length-3 c = search needs
+
 returns : tie.Need-returns
 returns c =
-    let p = c .before .before .before .before in
-    let t = p .before .before .before .before .before .before in
+    let t = c .before .before .before .before .before .before .before .before .before .before .before .before in
     let a = start-of t .args in
     let s = sym (t .before .straight .ensures) ∙ and-left (t .before .straight .result) _ (t .if1 .taken) in
-    rw (← lent-is (a .cursor) (a .ring .now) (a .n) s (within t)) (p .apply .ensures)
+    rw (← lent-is (a .cursor) (a .ring .now) (a .n) s (within t)) (c .before .before .before .before .before .before .apply .ensures)
 
 slice-aggregate-copy : tie.Need-slice-aggregate-copy
 slice-aggregate-copy c = search needs
@@ -69,20 +71,22 @@ slice-aggregate-apply c = sym (length-take-le _ _ (search needs))
 apply-requires-2 : tie.Need-apply-requires-2
 apply-requires-2 c κs = search needs
 
-same-length-3 : tie.Need-same-length-3
-same-length-3 c = search needs
-
 same-length-4 : tie.Need-same-length-4
 same-length-4 c = search needs
 
+same-length-5 : tie.Need-same-length-5
+same-length-5 c = search needs
+
+same-length-6 : tie.Need-same-length-6
+same-length-6 c = search needs
+
 returns-2 : tie.Need-returns-2
 returns-2 c =
-    let p = c .before .before .before .before in
-    let k = p .before .before .before .before .before .before .before in
-    let a = k .before .before .before .before .before .before .before .before .args in
-    let e : take (a .n) (k .copy .last .1 .1 .0) ≡ bytesAt (a .cursor) (a .ring .now) (a .n) =
-    ap (take (a .n)) (k .copy .ensures) ∙ copied-is (a .cursor) (a .ring .now) (replicate 129 0) (a .n) (search needs) in
-    rw (← e) (p .apply2 .ensures)
+    let d = c .before .before .before .before .before .before .before .before .before .before .before .before .before in
+    let a = d .before .before .before .before .before .before .before .before .before .args in
+    let e : take (a .n) (d .copy .last .1 .1 .0) ≡ bytesAt (a .cursor) (a .ring .now) (a .n) =
+    ap (take (a .n)) (d .copy .ensures) ∙ copied-is (a .cursor) (a .ring .now) (replicate 129 0) (a .n) (search needs) in
+    rw (← e) (c .before .before .before .before .before .before .apply2 .ensures)
 
 pub execute-spec : {M : Type 1} → statement M
 execute-spec =
@@ -97,12 +101,14 @@ execute-spec =
     apply-requires
     same-length
     same-length-2
+    same-length-3
     returns
     slice-aggregate-copy
     copy-requires
     array-share-prefix-bytes
     slice-aggregate-apply
     apply-requires-2
-    same-length-3
     same-length-4
+    same-length-5
+    same-length-6
     returns-2)

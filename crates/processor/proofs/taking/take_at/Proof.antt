@@ -9,10 +9,11 @@ use Rattle.processor.proofs.taking.take_at.Statement.{statement}
 use Rattle.processor.proofs.taking.take_at.Tie as tie
 
 abbrev start-of : tie.After-look → tie.Start
-start-of l = l .before .before .before .before .before .before
+start-of l = l .before .before .before .before .before .before .before
 
 -- what the look finds is what the cursor's bytes begin with
-found-at : (l : tie.After-look) → meaning (l .look .result) ≡ seen (start-of l .args .cursor) (start-of l .args .ring .now) (start-of l .args .cp .now) (start-of l .args .draw)
+found-at : (l : tie.After-look) → meaning (l .look .result)
+    ≡ seen (start-of l .args .cursor) (start-of l .args .ring .now) (start-of l .args .cp .now) (start-of l .args .draw)
 unfolding seen
 found-at l = rw (l .before .before .peek .ensures) at (l .look .ensures)
 
@@ -27,9 +28,8 @@ enum-known-next c = search needs
 
 execute-requires : tie.Need-execute-requires
 execute-requires c κs =
-    let n = c .before .before .before .before .before in
-    let l = n .before .before in
-    unit-most _ _ _ _ _ _ _ (rw (n .next .given .1) at (l .look .ensures))
+    let b = c .before .before .before .before .before in
+    unit-most _ _ _ _ _ _ _ (rw (b .next .given .1) at (b .before .before .look .ensures))
 
 skip-requires : tie.Need-skip-requires
 skip-requires c κs = search needs
@@ -49,11 +49,15 @@ same-length c = search needs
 same-length-2 : tie.Need-same-length-2
 same-length-2 c = search needs
 
+same-length-3 : tie.Need-same-length-3
+same-length-3 c = search needs
+
 returns : tie.Need-returns
 returns c =
-    let e = c .before .before .before .before .before .before in
-    let n = e .before .before .before .before .before .before in
-    takes-unit (sym (ap meaning (n .next .given .1)) ∙ found-at (n .before .before)) (e .execute .ensures) (c .before .skip .ensures) (c .next-draw .ensures)
+    let n = c .before .before .before .before .before .before .before .before .before .before .before .before .before .before in
+    takes-unit (sym (ap meaning (n .next .given .1)) ∙ found-at (n .before .before))
+    (c .before .before .before .before .before .before .before .before .execute .ensures) (c .before .skip .ensures)
+    (c .next-draw .ensures)
 
 returns-2 : tie.Need-returns-2
 returns-2 c = takes-waiting (sym (ap meaning (c .before .next2 .given .1)) ∙ found-at (c .before .before .before))
@@ -75,6 +79,7 @@ take-at-spec =
     enum-known-next-3
     same-length
     same-length-2
+    same-length-3
     returns
     returns-2
     returns-3)

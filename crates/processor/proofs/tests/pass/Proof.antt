@@ -14,8 +14,13 @@ cond-not : (b : Bool) (x y : ℕ) → cond (not b) x y ≡ cond b y x
 cond-not true x y = refl
 cond-not false x y = refl
 
+-- what came in
+abbrev start-of : tie.Else1 → tie.Start
+start-of h = h .before .before .before
+
 -- past the test of 1
-fit : (h : tie.Else1) → stateFits (h .before .before .args .fifo) (h .before .before .args .cp .now) (h .before .before .args .bp .now) (h .before .before .args .draw) (h .before .before .args .ring) ≡ true
+fit : (h : tie.Else1) → stateFits (start-of h .args .fifo) (start-of h .args .cp .now) (start-of h .args .bp .now)
+    (start-of h .args .draw) (start-of h .args .ring) ≡ true
 fit h = sym (h .before .state-fits .ensures) ∙ not-false _ (h .if1 .left)
 
 state-fits-requires : tie.Need-state-fits-requires
@@ -39,13 +44,17 @@ first-of-requires c κs = search needs
 returns-4 : tie.Need-returns-4
 unfolding gateBy
 returns-4 c =
-    let h = c .before in
-    let b = h .before in
-    let control = b .before .before .before .args .fifo .control in
-    rw (fit (b .before), eq-eqb _ _ (b .if2 .left), le-leb _ _ (h .if3 .left))
+    let control = c .before .before .before .before .before .before .args .fifo .control in
+    rw (fit (c .before .before .before), eq-eqb _ _ (c .before .before .if2 .left), le-leb _ _ (c .before .if3 .left))
     (c .first-of .ensures ∙ ap (λ (n : ℕ). cond (eqb (readBit control) 0) 4 n ∷ []) (cond-not (eqb (linkBit control) 0) 5 0))
 
 pub pass-spec : {M : Type 1} → statement M
 pass-spec =
     tie.close
-    (tie.spec state-fits-requires returns returns-2 returns-3 first-of-requires returns-4)
+    (tie.spec
+    state-fits-requires
+    returns
+    returns-2
+    returns-3
+    first-of-requires
+    returns-4)

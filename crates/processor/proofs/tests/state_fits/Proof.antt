@@ -15,4 +15,7 @@ unfolding stateFits controlFits
 returns c = rw (c .before .before .ready .ensures, c .registers-fit .ensures)
 
 pub state-fits-spec : {M : Type 1} → statement M
-state-fits-spec = tie.close (tie.spec ready-requires registers-fit-requires returns)
+state-fits-spec = tie.close (tie.spec
+    ready-requires
+    registers-fit-requires
+    returns)

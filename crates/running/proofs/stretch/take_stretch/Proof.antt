@@ -1,5 +1,7 @@
 -- `running::take_stretch` meets its contract: the stretch is the first bytes of the cursor, and what is taken off it is taken off them.
 use Rattle.running.proofs.Stretched.{stretch-none, stretch-some}
+use mathlib.Core.Path.{refl}
+use mathlib.Core.Logic.{inl, inr}
 use borrow.Author.Needs.{needs}
 use Rattle.running.proofs.stretch.take_stretch.Statement.{statement}
 use Rattle.running.proofs.stretch.take_stretch.Tie as tie
@@ -20,7 +22,7 @@ skip-requires : tie.Need-skip-requires
 skip-requires c κs = search needs
 
 returns : tie.Need-returns
-returns c = stretch-none _ _ _ _ _ _ _ _ (c .skip .ensures)
+returns c = (stretch-none _ _ _ _ _ _ _ _ (c .skip .ensures), inl refl)
 
 sub-take-straight : tie.Need-sub-take-straight
 sub-take-straight c = search needs
@@ -46,12 +48,17 @@ same-length c = search needs
 same-length-2 : tie.Need-same-length-2
 same-length-2 c = search needs
 
+same-length-3 : tie.Need-same-length-3
+same-length-3 c = search needs
+
 returns-2 : tie.Need-returns-2
 returns-2 c =
-    let c6 = c .before .before .before .before .before .before in
-    let c12 = c6 .before .before .before .before .before .before in
-    let b = c12 in
-    stretch-some _ _ _ (b .before .before .reach .ensures) (b .if1 .left) (c6 .take-straight .ensures) (c .skip2 .ensures)
+    let t = c .before .before .before .before .before .before .before .before in
+    let e = t .take-straight .ensures in (
+      stretch-some _ _ _ (t .before .before .before .before .before .before .before .before .reach .ensures)
+          (t .before .before .before .before .before .before .if1 .left) (e .0) (c .skip2 .ensures),
+      inr (e .1),
+    )
 
 pub take-stretch-spec : {M : Type 1} → statement M
 take-stretch-spec =
@@ -71,4 +78,5 @@ take-stretch-spec =
     skip-requires-2
     same-length
     same-length-2
+    same-length-3
     returns-2)

@@ -21,8 +21,8 @@ use Rattle.running.proofs.units.take_units.Tie as tie
 
 abbrev Inv-loop : tie.InvT-loop
 Inv-loop fifo ring cp₀ bp₀ xf₀ buffer₀ limit cursor₀ draw₀ units₀ cp bp xf buffer cursor draw units =
-    (length xf ≡ length xf₀) × ((length buffer ≡ length buffer₀)
-    × Course ring limit (stateOf fifo cp₀ bp₀ draw₀ xf₀ buffer₀) cursor cp bp draw xf buffer units)
+    (length bp ≡ length bp₀) × ((length xf ≡ length xf₀) × ((length buffer ≡ length buffer₀)
+    × Course ring limit (stateOf fifo cp₀ bp₀ draw₀ xf₀ buffer₀) cursor cp bp draw xf buffer units))
 
 abbrev μ-loop : tie.MeasureT-loop
 μ-loop fifo ring cp₀ bp₀ xf₀ buffer₀ limit cursor₀ draw₀ units₀ cp bp xf buffer cursor draw units = limit - units
@@ -39,16 +39,20 @@ not-done (Refused r) h c k n e = let z : _≡_ {A = ℕ} 0 1 = cc in omega arith
 abbrev loop-of : tie.After-take-stretch Inv-loop μ-loop → tie.At-loop Inv-loop μ-loop
 loop-of a = a .before .before .before .before .before
 
+-- the stretch before a unit
+abbrev stretch-of : tie.After-take-next Inv-loop μ-loop → tie.After-take-stretch Inv-loop μ-loop
+stretch-of t = t .before .before .before .before .before .before .before .before .before .before .before .before .before .before
+
 abbrev start-of : tie.At-loop Inv-loop μ-loop → tie.Start Inv-loop μ-loop
-start-of l = l .before .before .before .before .before
+start-of l = l .before .before .before .before .before .before
 
 octets : (l : tie.At-loop Inv-loop μ-loop) → Octets (start-of l .args .ring .now)
-octets l k = l .before .before .before .before .shared-slice-known .given k .fits
+octets l k = l .before .before .before .before .before .shared-slice-known .given k .fits
 
 -- the stretch was within the limit
 few : (a : tie.After-take-stretch Inv-loop μ-loop) → a .take-stretch .result .units ≤ start-of
     (loop-of a) .args .limit - loop-of a .loop .units
-few a = a .take-stretch .ensures .taken .within
+few a = a .take-stretch .ensures .0 .taken .within
 
 -- the run after a stretch
 gone : (a : tie.After-take-stretch Inv-loop μ-loop) → let l = loop-of a in
@@ -59,45 +63,56 @@ gone : (a : tie.After-take-stretch Inv-loop μ-loop) → let l = loop-of a in
     (z .1 .1 .0) (z .1 .1 .1 .0) (a .take-stretch .result .draw) (z .1 .1 .1 .1 .1 .0) (z .1 .1 .1 .1 .1 .1 .0)
     (l .loop .units + a .take-stretch .result .units)
 gone a =
-    course-stretch _ (octets (loop-of a)) (loop-of a .loop .inv .1 .1) (a .take-stretch .ensures)
-    (omega (arith, loop-of a .loop .inv .1 .1 .within))
+    course-stretch _ (octets (loop-of a)) (loop-of a .loop .inv .1 .1 .1) (a .take-stretch .ensures .0)
+    (omega (arith, loop-of a .loop .inv .1 .1 .1 .within))
 
 open-requires : tie.Need-open-requires Inv-loop μ-loop
 open-requires c κs = search needs
 
 loop-holds : tie.Need-loop-holds Inv-loop μ-loop
 loop-holds c =
-    let a = c .before .before .before .before .args in
+    let a = c .before .before .before .before .before .args in
     let s = stateOf (a .fifo) (a .cp .now) (a .bp .now) (a .first) (a .xf .now) (a .buffer .now) in
-    (refl, (refl, course-begins (a .ring .now) (a .limit) s (c .before .before .before .before .pre) (c .«open» .ensures)))
+    (refl, (refl, (refl, course-begins (a .ring .now) (a .limit) s (c .before .before .before .before .before .pre) (c .«open» .ensures))))
 
 sub-take-stretch : tie.Need-sub-take-stretch Inv-loop μ-loop
-sub-take-stretch c = c .before .before .before .before .loop .inv .1 .1 .within
+sub-take-stretch c = c .before .before .before .before .loop .inv .1 .1 .1 .within
 
 take-stretch-requires : tie.Need-take-stretch-requires Inv-loop μ-loop
 take-stretch-requires c κs = search needs
 
 add-units : tie.Need-add-units Inv-loop μ-loop
 add-units c =
-    let c6 = c .before .before .before .before .before .before in
-    omega (arith, few (c6), start-of (loop-of (c6)) .fits .limit)
+    let a = c .before .before .before .before .before .before .before .before in
+    omega (arith, few a, start-of (loop-of a) .fits .limit)
 
 close-requires : tie.Need-close-requires Inv-loop μ-loop
 close-requires c κs = search needs
 
 same-length : tie.Need-same-length Inv-loop μ-loop
-same-length c = search needs
+same-length c =
+    let a = c .before .before .before .before .before .before .before .before .before .before in
+    search (needs, loop-of a .loop .inv .0, c .before .before .before .before .before .before .before .before .before .bp)
 
 same-length-2 : tie.Need-same-length-2 Inv-loop μ-loop
-same-length-2 c = search needs
+same-length-2 c =
+    let a = c .before .before .before .before .before .before .before .before .before .before in
+    search (needs, loop-of a .loop .inv .1 .0, c .before .before .before .before .before .before .before .xf)
+
+same-length-3 : tie.Need-same-length-3 Inv-loop μ-loop
+same-length-3 c =
+    let a = c .before .before .before .before .before .before .before .before .before .before in
+    search (needs, loop-of a .loop .inv .1 .1 .0, c .before .before .before .before .before .buffer)
 
 returns : tie.Need-returns Inv-loop μ-loop
 returns c =
-    let c8 = c .before .before .before .before .before .before .before .before in
-    course-ends (start-of (loop-of (c8)) .pre) (gone (c8)) (c .before .if1 .taken) (c .close .ensures)
+    let a = c .before .before .before .before .before .before .before .before .before .before in
+    course-ends (start-of (loop-of a) .pre) (gone a) (c .before .if1 .taken) (c .close .ensures)
 
-take-at-requires : tie.Need-take-at-requires Inv-loop μ-loop
-take-at-requires c κs = search needs
+take-next-requires : tie.Need-take-next-requires Inv-loop μ-loop
+take-next-requires c κs =
+    let s = c .before .before .before .before in
+    s .before .before .before .before .before .before .before .before .before .take-stretch .ensures .1
 
 enum-told : tie.Need-enum-told Inv-loop μ-loop
 enum-told c = search needs
@@ -108,59 +123,76 @@ close-requires-2 c κs = search needs
 stop-for-requires : tie.Need-stop-for-requires Inv-loop μ-loop
 stop-for-requires c κs = search needs
 
-same-length-3 : tie.Need-same-length-3 Inv-loop μ-loop
-same-length-3 c =
-    let c6 = c .before .before .before .before .before .before in
-    let c18 = c6 .before .before .before .before .before .before .before .before .before .before .before .before in
-    let c24 = c18 .before .before .before .before .before .before in
-    search (needs, c24 .loop .inv .0, c18 .xf, c6 .xf2)
-
 same-length-4 : tie.Need-same-length-4 Inv-loop μ-loop
 same-length-4 c =
-    let c4 = c .before .before .before .before in
-    let c16 = c4 .before .before .before .before .before .before .before .before .before .before .before .before in
-    let c24 = c16 .before .before .before .before .before .before .before .before in
-    search (needs, c24 .loop .inv .1 .0, c16 .buffer, c4 .buffer2)
+    let t = c .before .before .before .before .before .before .before .before .before in
+    let s = t .before .before .before .before .before in
+    let l = loop-of (stretch-of t) .loop .inv in
+    search (
+      needs,
+      l .0,
+      s .before .before .before .before .before .before .before .before .bp,
+      c .before .before .before .before .before .before .before .before .bp2,
+    )
+
+same-length-5 : tie.Need-same-length-5 Inv-loop μ-loop
+same-length-5 c =
+    let t = c .before .before .before .before .before .before .before .before .before in
+    let s = t .before .before .before .before .before in
+    let l = loop-of (stretch-of t) .loop .inv in
+    search (needs, l .1 .0, s .before .before .before .before .before .before .xf, c .before .before .before .before .before .before .xf2)
+
+same-length-6 : tie.Need-same-length-6 Inv-loop μ-loop
+same-length-6 c =
+    let t = c .before .before .before .before .before .before .before .before .before in
+    let s = t .before .before .before .before .before in
+    let l = loop-of (stretch-of t) .loop .inv in
+    search (needs, l .1 .1 .0, s .before .before .before .before .buffer, c .before .before .before .before .buffer2)
 
 returns-2 : tie.Need-returns-2 Inv-loop μ-loop
 returns-2 c =
-    let c7 = c .before .before .before .before .before .before .before in
-    let c12 = c7 .before .before .before .before .before in
-    let c19 = c12 .before .before .before .before .before .before .before in
-    let a = c19 in
+    let t = c .before .before .before .before .before .before .before .before .before in
+    let a = stretch-of t in
     let l = loop-of a in
-    course-stops _ (octets l) (gone a) (c12 .if1 .left) (takes-course (gone a) (c7 .take-at .ensures))
-    (not-done (c7 .take-at .result .answer) (c .before .before .match .keys2)) (c .stop-for .ensures) (c .before .close2 .ensures)
+    let s = t .before .before .before .before .before in
+    course-stops _ (octets l) (gone a) (s .if1 .left) (takes-course (gone a) (t .take-next .ensures))
+    (not-done (t .take-next .result .answer) (c .before .before .match .keys2)) (c .stop-for .ensures) (c .before .close2 .ensures)
     (start-of l .pre)
 
 add-units-2 : tie.Need-add-units-2 Inv-loop μ-loop
 add-units-2 c =
-    let c11 = c .before .before .before .before .before .before .before .before .before .before .before in
-    let c18 = c11 .before .before .before .before .before .before .before in
-    omega (arith, c11 .if1 .left, start-of (loop-of (c18)) .fits .limit)
+    let t = c .before .before .before .before .before .before .before .before in
+    omega (arith, t .before .before .before .before .before .if1 .left, start-of (loop-of (stretch-of t)) .fits .limit)
 
 loop-less : tie.Need-loop-less Inv-loop μ-loop
 loop-less c =
-    let c12 = c .before .before .before .before .before .before .before .before .before .before .before .before in
-    let c19 = c12 .before .before .before .before .before .before .before in
-    omega (arith, few (c19), c12 .if1 .left)
+    let t = c .before .before .before .before .before .before .before .before .before in
+    omega (arith, few (stretch-of t), t .before .before .before .before .before .if1 .left)
 
 loop-again : tie.Need-loop-again Inv-loop μ-loop
 loop-again c =
-    let c4 = c .before .before .before .before in
-    let c6 = c4 .before .before in
-    let c7 = c6 .before in
-    let c12 = c7 .before .before .before .before .before in
-    let c16 = c12 .before .before .before .before in
-    let c18 = c16 .before .before in
-    let c19 = c18 .before in
-    let c24 = c19 .before .before .before .before .before in (
-      search (needs, c24 .loop .inv .0, c18 .xf, c6 .xf2),
+    let t = c .before .before .before .before .before .before .before .before .before in
+    let s = t .before .before .before .before .before in
+    let a = stretch-of t in
+    let l = loop-of a .loop .inv in (
+      search (
+        needs,
+        l .0,
+        s .before .before .before .before .before .before .before .before .bp,
+        c .before .before .before .before .before .before .before .before .bp2,
+      ),
       (
-        search (needs, c24 .loop .inv .1 .0, c16 .buffer, c4 .buffer2),
-        let a = c19 in
-            course-goes _ (octets (loop-of a)) (gone a) (c12 .if1 .left) (takes-course (gone a) (c7 .take-at .ensures)) _ _ _
-            (ap meaning (c .before .enum-told .given .1)),
+        search (
+          needs,
+          l .1 .0,
+          s .before .before .before .before .before .before .xf,
+          c .before .before .before .before .before .before .xf2,
+        ),
+        (
+          search (needs, l .1 .1 .0, s .before .before .before .before .buffer, c .before .before .before .before .buffer2),
+          course-goes _ (octets (loop-of a)) (gone a) (s .if1 .left) (takes-course (gone a) (t .take-next .ensures)) _ _ _
+              (ap meaning (c .before .enum-told .given .1)),
+        ),
       ),
     )
 
@@ -178,13 +210,15 @@ take-units-spec =
     close-requires
     same-length
     same-length-2
+    same-length-3
     returns
-    take-at-requires
+    take-next-requires
     enum-told
     close-requires-2
     stop-for-requires
-    same-length-3
     same-length-4
+    same-length-5
+    same-length-6
     returns-2
     add-units-2
     loop-less

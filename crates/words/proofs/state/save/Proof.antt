@@ -1,7 +1,7 @@
 -- `words::state::save` meets its contract: the registers are stored behind the front.
 use mathlib.Core.Path.{_≡_}
 use lib.ListN.{length}
-use Rattle.words.proofs.Saving.{all-saved}
+use Rattle.words.proofs.Saving.{cp-saved, all-saved}
 use borrow.Author.Needs.{needs}
 use Rattle.words.proofs.state.save.Statement.{statement}
 use Rattle.words.proofs.state.save.Tie as tie
@@ -21,7 +21,8 @@ returns c =
     let n : length (a .cp .now) ≡ 60 = search needs in
     let m : length (a .bp .now) ≡ 256 = search needs in
     let f = c .before .before .before .before .before .before .save-front .ensures in
-    all-saved (a .fifo) (a .draw) (a .state .now) (f .1) (a .cp .now) (a .bp .now) n m (f .0) (c .before .before .before .store .ensures)
+    all-saved (a .fifo) (a .draw) (a .state .now) (f .1) (a .cp .now) (a .bp .now) n m
+    (cp-saved (a .fifo) (a .draw) (a .state .now) (f .1) (a .cp .now) n (f .0) (c .before .before .before .store .ensures))
     (c .store2 .ensures)
 
 pub save-spec : {M : Type 1} → statement M
