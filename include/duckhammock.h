@@ -41,7 +41,7 @@ extern "C" {
 #define DUCKHAMMOCK_FORMAT_WORDS 5
 /* What an attribute decodes to: its kind and nine values. */
 #define DUCKHAMMOCK_VALUE_WORDS 10
-/* A whole vertex: so many words for each of its attributes, in order. */
+/* A whole vertex: DUCKHAMMOCK_VALUE_WORDS words for each attribute, in order. */
 #define DUCKHAMMOCK_VERTEX_WORDS 210
 /* The masks of a patch, and its numbers: one for each BP register. */
 #define DUCKHAMMOCK_PATCH_ENTRIES 256
