@@ -5,12 +5,14 @@ use mathlib.Core.Logic.{_⊎_}
 use mathlib.Core.List.{List}
 use Prim.Native.Nat.{ℕ, _≤_}
 use Rattle.command.specs.declared.Draw.{Draw}
+use Rattle.command.specs.Command.{unit, vertex}
 use Rattle.walk.specs.Flat.{coreOf}
 use Rattle.walk.specs.Walk.{TakesMany}
 use Rattle.bulk.specs.Size.{sizeTold}
 use Rattle.queue.specs.declared.Cursor.{Cursor}
 use Rattle.queue.specs.Cursor.{skipped}
-use Rattle.processor.specs.Cursor.{bytesAt}
+use Rattle.processor.specs.Cursor.{bytesAt, Takes}
+use Rattle.processor.specs.declared.StepAnswer.{StepAnswer}
 
 -- units off the first bytes of a cursor, and all that they leave
 pub record TakesStretch (cursor : Cursor) (ring cp bp : List ℕ) (draw : Draw) (xf buffer : List ℕ) (most : ℕ)
@@ -24,3 +26,8 @@ pub record TakesStretch (cursor : Cursor) (ring cp bp : List ℕ) (draw : Draw) 
 -- the bytes of a vertex of the draw, or 0 where they are not known
 abbrev pub SizeKnown : List ℕ → Draw → ℕ → Type 0
 SizeKnown cp draw size = (size ≡ 0) ⊎ (size ≡ sizeTold cp draw)
+
+-- a vertex of so many bytes taken off a cursor: registers and XF words stay
+pub record TakesVertex (cursor : Cursor) (ring : List ℕ) (draw : Draw) (buffer : List ℕ) (size : ℕ)
+    (answer : StepAnswer) (cursor' : Cursor) (draw' : Draw) (buffer' : List ℕ) : Type 0 where
+  pub any : (cp bp xf : List ℕ) → Takes (unit vertex 0 size) cursor ring cp bp draw xf buffer answer cursor' draw' cp bp xf buffer'

@@ -1,19 +1,20 @@
 // The units of a run, until the limit, waiting or a refusal.
 use crate::Stop;
 use crate::stretch;
+use command::Command;
 use command::Draw;
 use fifo::Fifo;
 use processor::Moved;
 use processor::StepAnswer;
 use queue::Cursor;
 ghost use mathlib.Core.Path.{_≡_};
-ghost use Prim.Native.Nat.{min};
+ghost use Prim.Native.Nat.{_≤_, min};
 ghost use lib.ListN.{length};
 ghost use Rattle.processor.specs.Gate.{gateBy};
 ghost use Rattle.processor.specs.Cursor.{seen, Takes};
 ghost use Rattle.processor.specs.Step.{meaning};
 ghost use Rattle.processor.specs.State.{stateOf};
-ghost use Rattle.running.specs.Stretch.{SizeKnown};
+ghost use Rattle.running.specs.Stretch.{SizeKnown, TakesVertex};
 ghost use Rattle.running.specs.Run.{runLimit, stopOf, meaningOfStop, Arrives};
 
 // The most units of a run.
@@ -45,8 +46,28 @@ fn stop_for(answer: StepAnswer) -> Stop
     }
 }
 
-// Takes the unit that the cursor begins with, as `take_at` does. In an open draw whose vertices are known to have so many bytes, waiting
-// needs no look.
+// Takes a vertex of so many bytes off a cursor, straight or over the ring's end.
+fn take_vertex(cursor: Cursor, ring: &[u8], draw: Draw, buffer: &mut [u8], size: u32) -> Moved
+    requires { ⌜ size ≤ 129 ⌝ }
+    ensures { λ r. ⌜ TakesVertex cursor (now (ring .entry)) draw (now (buffer .entry)) size
+        (r .answer) (r .cursor) (r .draw) (now (buffer .exit)) ⌝ }
+{
+    let mut bytes = [0u8; 129];
+    queue::copy(cursor, ring, &mut bytes, size);
+    effect::copy_vertex(buffer, &bytes[..size as usize]);
+    Moved {
+        cursor: queue::skip(cursor, size),
+        draw: effect::next_draw(Command::Vertex, draw),
+        answer: StepAnswer::Done {
+            command: Command::Vertex,
+            memory: 0,
+            length: size,
+        },
+    }
+}
+
+// Takes the unit that the cursor begins with, as `take_at` does. In an open draw whose vertices are known to have so many bytes, 0 where
+// that is not known, their layout is not measured again.
 fn take_next(
     cursor: Cursor,
     ring: &[u8],
@@ -66,8 +87,11 @@ fn take_next(
     let Draw::Open { .. } = draw else {
         return processor::take_at(cursor, ring, cp, bp, draw, xf, buffer);
     };
-    if size <= there {
+    if size == 0 {
         return processor::take_at(cursor, ring, cp, bp, draw, xf, buffer);
+    }
+    if size <= there {
+        return take_vertex(cursor, ring, draw, buffer, size);
     }
     Moved {
         cursor,

@@ -1,6 +1,7 @@
--- `running::units::take_next` meets its contract: it is `take_at`, or waiting where that is known.
+-- `running::units::take_next` meets its contract: it is `take_at`, but that nothing is looked at where the size of a vertex is known.
+use native.Mathlib.Omega.{arith}
 use Rattle.processor.proofs.Found.{takes-waiting}
-use Rattle.running.proofs.Unlooked.{waits-unlooked}
+use Rattle.running.proofs.Unlooked.{known-most, waits-unlooked, vertex-unlooked}
 use borrow.Author.Needs.{needs}
 use Rattle.running.proofs.units.take_next.Statement.{statement}
 use Rattle.running.proofs.units.take_next.Tie as tie
@@ -41,15 +42,32 @@ same-length-6 c = search needs
 returns-2 : tie.Need-returns-2
 returns-2 c = search needs
 
-sub-t25 : tie.Need-sub-t25
-sub-t25 c = search needs
+take-vertex-requires : tie.Need-take-vertex-requires
+take-vertex-requires c κs =
+    let a = c .before .before .before .before .before .before .before .before .before .args in
+    let z = c .before .before .if1 .left in
+    known-most (a .cp .now) (a .draw) (a .size) _ _ _ (c .before .before .before .before .before .before .before .before .before .pre) (c .before .before .before .enum-told .given .1) (omega (arith, z))
+
+same-length-7 : tie.Need-same-length-7
+same-length-7 c = search needs
 
 returns-3 : tie.Need-returns-3
 returns-3 c =
-    let a = c .before .before .before .before .before .before .before .args in
-    takes-waiting (waits-unlooked (a .cursor) (a .ring .now) (a .cp .now) (a .draw) (a .size) _ _ _
-    (c .before .before .before .before .before .before .before .pre) (c .before .enum-told .given .1)
-    (c .if1 .left))
+    let t = c .before .before in
+    let a = t .before .before .before .before .before .before .before .before .before .before .args in
+    let z = t .before .before .before .if1 .left in
+    rw (← vertex-unlooked (a .cursor) (a .ring .now) (a .cp .now) (a .draw) (a .size) _ _ _ (t .before .before .before .before .before .before .before .before .before .before .pre) (t .before .before .before .before .enum-told .given .1)
+    (omega (arith, z)) (t .before .before .if2 .taken))
+    (t .take-vertex .ensures .any (a .cp .now) (a .bp .now) (a .xf .now))
+
+sub-t27 : tie.Need-sub-t27
+sub-t27 c = search needs
+
+returns-4 : tie.Need-returns-4
+returns-4 c =
+    let a = c .before .before .before .before .before .before .before .before .args in
+    takes-waiting (waits-unlooked (a .cursor) (a .ring .now) (a .cp .now) (a .draw) (a .size) _ _ _ (c .before .before .before .before .before .before .before .before .pre) (c .before .before .enum-told .given .1)
+    (c .if2 .left))
 
 pub take-next-spec : {M : Type 1} → statement M
 take-next-spec =
@@ -67,5 +85,8 @@ take-next-spec =
     same-length-5
     same-length-6
     returns-2
-    sub-t25
-    returns-3)
+    take-vertex-requires
+    same-length-7
+    returns-3
+    sub-t27
+    returns-4)
