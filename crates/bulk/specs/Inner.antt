@@ -51,7 +51,7 @@ pub record MovesVertices (bytes : List ℕ) (from primitive format left size : �
   pub any : (cp bp xf : List ℕ) → size ≡ vertexBytes cp format
       → Moves bytes from (coreOf cp bp (openedBy primitive format left) xf buffer) most units to (coreOf cp bp draw' xf buffer')
 
--- the draw that vertices of so many bytes leave, and that many told
+-- the draw that vertices of so many bytes leave, and a vertex's bytes told
 pub record Leaves (primitive format size : ℕ) (draw' : Draw) (size' : ℕ) : Type 0 where
   pub left : ℕ
   pub draw-is : draw' ≡ openedBy primitive format left

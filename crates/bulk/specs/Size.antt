@@ -7,7 +7,7 @@ use Rattle.command.specs.declared.Draw.{Draw}
 use Rattle.command.specs.declared.Draw.the-variants.{Closed, Open}
 use Rattle.command.specs.Look.{vertexBytes}
 
--- the bytes of a vertex of the draw; 0 where none is open, or one with no vertex left, which is refused by 1
+-- the bytes of a vertex of the draw; 0 where none is open, where no vertex is left, which 1 refuses, or where 9 or 10 refuse its layout
 abbrev pub sizeTold : List ℕ → Draw → ℕ
 sizeTold cp Closed = 0
 sizeTold cp (Open primitive format left) = cond (eqb left 0) 0 (vertexBytes cp format)

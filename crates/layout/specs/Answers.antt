@@ -64,7 +64,8 @@ pub record MeasuredAs (refusal length : ℕ) (r : Extent) : Type 0 where
 abbrev pub Measured : Descriptor → Extent → Type 0
 Measured d r = MeasuredAs (refusalOf d) (lengthOf d) r
 
--- what `find` promises: the answer and the length of the layout, and the sum before attribute k, of all above 20
+-- what `find` promises: the answer and the length of the layout, and the sum of those before attribute k, of all 21 where k is above 20,
+-- refused or not
 pub record SpotOf (d : Descriptor) (k : ℕ) (r : Spot) : Type 0 where
   pub answer-is : meaning (r .answer) ≡ refusalOf d ∷ []
   pub length-is : r .length ≡ lengthOf d

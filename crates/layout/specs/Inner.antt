@@ -61,7 +61,7 @@ pub record TexturesOf (d : Descriptor) (r : Textures) : Type 0 where
   pub texture7-is : r .texture7 ≡ sizeOf d 20
   pub unknown-is : r .unknown ≡ anyUnknown d 21
 
--- all attributes, and the matrices among them
+-- the bytes of all attributes, and of the matrices among them
 pub record SumOf (d : Descriptor) (r : Sum) : Type 0 where
   pub bytes-are : r .bytes ≡ offsetOf d 21
   pub matrices-are : r .matrices ≡ offsetOf d 9

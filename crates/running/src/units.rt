@@ -66,8 +66,8 @@ fn take_vertex(cursor: Cursor, ring: &[u8], draw: Draw, buffer: &mut [u8], size:
     }
 }
 
-// Takes the unit that the cursor begins with, as `take_at` does. In an open draw whose vertices are known to have so many bytes, 0 where
-// that is not known, their layout is not measured again.
+// Takes the unit that the cursor begins with, as `take_at` does. `size` is the bytes of a vertex of the open draw, 0 where they are not
+// known; where they are, nothing is looked at or measured.
 fn take_next(
     cursor: Cursor,
     ring: &[u8],

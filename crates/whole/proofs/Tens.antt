@@ -19,7 +19,7 @@ use Rattle.vertex.specs.Attributes.{bitsOf, paddedList, componentList, attribut
 use Rattle.vertex.specs.Answers.{refusalAt}
 use Rattle.encoding.specs.Told.{padded}
 use Rattle.whole.specs.Whole.{wholeTo, wholeRefusal}
-use Rattle.whole.specs.Inner.{tenAt, fewList, frameList, fewKind, Tells, TellsFrom}
+use Rattle.whole.specs.Inner.{tenAt, fewList, frameList, fewKind, ToldAt, TellsFrom}
 
 -- ---- components, by the number of the attribute and the count bit
 
@@ -142,7 +142,7 @@ module _ (d : Descriptor) (l : List ℕ) where
   -- attribute k is told
   pub tells-ten : (k slot : ℕ) (values words : List ℕ) (at n r : ℕ) {values' : List ℕ} → slot + 10 ≤ length values → at ≡ offsetOf d k
       → words ≡ padded 10 (attributeList d k l at) → n ≡ sizeOf d k → r ≡ at + n → values' ≡ tenAt slot words values
-      → Tells d k l slot values r values'
+      → ToldAt d k l slot values r values'
   tells-ten k slot values words at n r {values'} h e w s q v =
       let w′ : words ≡ padded 10 (attributeList d k l (offsetOf d k)) = w ∙ ap (λ (x : ℕ). padded 10 (attributeList d k l x)) e in
       let v′ : values' ≡ tenAt slot (padded 10 (attributeList d k l (offsetOf d k))) values =
@@ -155,7 +155,7 @@ module _ (d : Descriptor) (l : List ℕ) where
       }
 
   -- to its place among all
-  pub moves-told : (k : ℕ) {values : List ℕ} {r : ℕ} {values' : List ℕ} → length values ≡ 210 → Tells d k l (10 * k) values r values'
+  pub moves-told : (k : ℕ) {values : List ℕ} {r : ℕ} {values' : List ℕ} → length values ≡ 210 → ToldAt d k l (10 * k) values r values'
       → TellsFrom d l k (k + 1) values r values'
   moves-told k {values} many t = record {
     at-is = t .next-is;

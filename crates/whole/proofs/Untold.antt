@@ -18,7 +18,7 @@ use Rattle.layout.proofs.Bounds.{mode-le, indices-le, indices-some, size-small,
 use Rattle.vertex.specs.Attributes.{directList, indexList, attributeList}
 use Rattle.vertex.proofs.Lists.{attribute-absent, attribute-direct, attribute-indexed}
 use Rattle.encoding.specs.Told.{padded}
-use Rattle.whole.specs.Inner.{tenAt, matrixList, Untold, Tells, TellsFrom}
+use Rattle.whole.specs.Inner.{tenAt, matrixList, Untold, ToldAt, TellsFrom}
 use Rattle.whole.proofs.Tens.{tells-ten, moves-told}
 
 -- a colour has at least two bytes
@@ -88,7 +88,7 @@ module _ {d : Descriptor} {field : Field} {k : ℕ} {l : List ℕ} {at slot : �
   some-index = omega (arith, ap (λ (f : Field). f .indices) (u .field-is), indices-some d k)
 
   module _ {values' : List ℕ} where
-    pub absent-told : field .mode ≡ 0 → values' ≡ tenAt slot (replicate 10 0) values → Tells d k l slot values at values'
+    pub absent-told : field .mode ≡ 0 → values' ≡ tenAt slot (replicate 10 0) values → ToldAt d k l slot values at values'
     absent-told m v =
         let z : modeOf d k ≡ 0 = sym mode-is ∙ m in
         tells-ten d l k slot values (replicate 10 0) at 0 at (u .space) (u .at-is)
@@ -96,7 +96,7 @@ module _ {d : Descriptor} {field : Field} {k : ℕ} {l : List ℕ} {at slot : �
 
     pub indexed-told : (words : List ℕ) → (field .mode ≡ 0 → ⊥) → (field .mode ≡ 1 → ⊥)
         → words ≡ padded 10 (indexList l at (field .indices) (field .mode - 1)) → values' ≡ tenAt slot words values
-        → Tells d k l slot values (at + field .indices * (field .mode - 1)) values'
+        → ToldAt d k l slot values (at + field .indices * (field .mode - 1)) values'
     indexed-told words z o w v =
         let z′ : modeOf d k ≡ 0 → ⊥ = λ e. z (mode-is ∙ e) in
         let o′ : modeOf d k ≡ 1 → ⊥ = λ e. o (mode-is ∙ e) in
@@ -107,7 +107,7 @@ module _ {d : Descriptor} {field : Field} {k : ℕ} {l : List ℕ} {at slot : �
 
     pub direct-told : (n : ℕ) → field .mode ≡ 1 → n ≡ directOf k (field .count) (field .format)
         → values' ≡ tenAt slot (padded 10 (directList l at k (field .count) (field .format) (field .fraction))) values
-        → Tells d k l slot values (at + n) values'
+        → ToldAt d k l slot values (at + n) values'
     direct-told n m e v =
         tells-ten d l k slot values (padded 10 (directList l at k (field .count) (field .format) (field .fraction))) at n _ (u .space)
         (u .at-is)

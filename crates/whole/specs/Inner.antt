@@ -24,7 +24,7 @@ tenAt slot words old = take slot old ++ (words ++ drop (slot + 10) old)
 abbrev pub matrixList : ℕ → List ℕ → ℕ → List ℕ
 matrixList bit l at = cond (eqb bit 0) (0 ∷ []) (1 ∷ bigEndian l at 1 ∷ [])
 
--- the bits of the first n components, 0 from the n-th on
+-- the bits of the first n components, of 1 to 3, and 0 for the others
 pub record UpToThree (l : List ℕ) (at format fraction n : ℕ) (r : Three) : Type 0 where
   pub x-is : r .x ≡ bitsOf l at format fraction 0
   pub y-is : r .y ≡ cond (ltb n 2) 0 (bitsOf l at format fraction 1)
@@ -52,7 +52,7 @@ pub record Untold (d : Descriptor) (field : Field) (k : ℕ) (l : List ℕ) (at 
   pub space : slot + 10 ≤ length values
 
 -- attribute k is told, with as many words as before, and the next one's place
-pub record Tells (d : Descriptor) (k : ℕ) (l : List ℕ) (slot : ℕ) (values : List ℕ) (r : ℕ) (values' : List ℕ) : Type 0 where
+pub record ToldAt (d : Descriptor) (k : ℕ) (l : List ℕ) (slot : ℕ) (values : List ℕ) (r : ℕ) (values' : List ℕ) : Type 0 where
   pub next-is : r ≡ offsetOf d (k + 1)
   pub many : length values' ≡ length values
   pub told : values' ≡ tenAt slot (padded 10 (attributeList d k l (offsetOf d k))) values

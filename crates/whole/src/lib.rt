@@ -15,7 +15,7 @@ ghost use Rattle.vertex.specs.Attributes.{directList, indexList, attributeList}
 ghost use Rattle.encoding.specs.Told.{padded};
 ghost use Rattle.whole.specs.Whole.{DecodesOne, DecodesAll};
 ghost use Rattle.whole.specs.Inner.{tenAt, matrixList, fewList, fewKind};
-ghost use Rattle.whole.specs.Inner.{Untold, Tells, Alone, TellsFrom};
+ghost use Rattle.whole.specs.Inner.{Untold, ToldAt, Alone, TellsFrom};
 
 // Puts ten words from a place on.
 fn put(values: &mut [u32], at: usize, words: [u32; 10])
@@ -162,7 +162,7 @@ fn tell(
     values: &mut [u32],
 ) -> u32
     requires { ⌜ Untold d field k (now vertex) at slot (now values) ⌝ }
-    ensures { λ r. ⌜ Tells d k (now (vertex .entry)) slot (now (values .entry)) r (now (values .exit)) ⌝ }
+    ensures { λ r. ⌜ ToldAt d k (now (vertex .entry)) slot (now (values .entry)) r (now (values .exit)) ⌝ }
 {
     put_any(d, field, k, vertex, at, slot, values);
     at + bytes_of(d, field, k)

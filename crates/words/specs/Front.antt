@@ -19,6 +19,6 @@ unfoldable pub frontOf : List ℕ → Front
 frontOf l = cond (fits l) (Held (fifoOf l) (drawOf l)) Wide
 
 -- the words after a unit whose command has this kind: where that is a CP load the 60 CP registers are stored, and else they stay; the BP
--- registers are what the words say
+-- registers stay as they stand in the words
 unfoldable pub wordsAfterUnit : List ℕ → ℕ → Fifo → List ℕ → Draw → List ℕ
 wordsAfterUnit l kind f cp draw = wordsBy f (cond (eqb kind 0x08) cp (cpOf l)) (bpOf l) draw
