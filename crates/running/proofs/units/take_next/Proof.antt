@@ -44,9 +44,10 @@ returns-2 c = search needs
 
 take-vertex-requires : tie.Need-take-vertex-requires
 take-vertex-requires c κs =
-    let a = c .before .before .before .before .before .before .before .before .before .args in
+    let s = c .before .before .before .before .before .before .before .before .before in
+    let a = s .args in
     let z = c .before .before .if1 .left in
-    known-most (a .cp .now) (a .draw) (a .size) _ _ _ (c .before .before .before .before .before .before .before .before .before .pre) (c .before .before .before .enum-told .given .1) (omega (arith, z))
+    known-most (a .cp .now) (a .draw) (a .size) _ _ _ (s .pre) (c .before .before .before .enum-told .given .1) (omega (arith, z))
 
 same-length-7 : tie.Need-same-length-7
 same-length-7 c = search needs
@@ -54,10 +55,12 @@ same-length-7 c = search needs
 returns-3 : tie.Need-returns-3
 returns-3 c =
     let t = c .before .before in
-    let a = t .before .before .before .before .before .before .before .before .before .before .args in
+    let s = t .before .before .before .before .before .before .before .before .before .before in
+    let a = s .args in
     let z = t .before .before .before .if1 .left in
-    rw (← vertex-unlooked (a .cursor) (a .ring .now) (a .cp .now) (a .draw) (a .size) _ _ _ (t .before .before .before .before .before .before .before .before .before .before .pre) (t .before .before .before .before .enum-told .given .1)
-    (omega (arith, z)) (t .before .before .if2 .taken))
+    let drawing = t .before .before .before .before .enum-told .given .1 in
+    rw (← vertex-unlooked (a .cursor) (a .ring .now) (a .cp .now) (a .draw) (a .size) _ _ _ (s .pre) drawing (omega (arith, z))
+    (t .before .before .if2 .taken))
     (t .take-vertex .ensures .any (a .cp .now) (a .bp .now) (a .xf .now))
 
 sub-t27 : tie.Need-sub-t27
@@ -65,9 +68,10 @@ sub-t27 c = search needs
 
 returns-4 : tie.Need-returns-4
 returns-4 c =
-    let a = c .before .before .before .before .before .before .before .before .args in
-    takes-waiting (waits-unlooked (a .cursor) (a .ring .now) (a .cp .now) (a .draw) (a .size) _ _ _ (c .before .before .before .before .before .before .before .before .pre) (c .before .before .enum-told .given .1)
-    (c .if2 .left))
+    let s = c .before .before .before .before .before .before .before .before in
+    let a = s .args in
+    let drawing = c .before .before .enum-told .given .1 in
+    takes-waiting (waits-unlooked (a .cursor) (a .ring .now) (a .cp .now) (a .draw) (a .size) _ _ _ (s .pre) drawing (c .if2 .left))
 
 pub take-next-spec : {M : Type 1} → statement M
 take-next-spec =

@@ -40,10 +40,8 @@ returns c =
     let a = d .before .before .before .before .args in
     let e : take (a .size) (d .copy .last .1 .1 .0) ≡ bytesAt (a .cursor) (a .ring .now) (a .size) =
     ap (take (a .size)) (d .copy .ensures) ∙ copied-is (a .cursor) (a .ring .now) (replicate 129 0) (a .size) (search needs) in
-    record {
-      any = λ cp bp xf.
-          takes-unit refl (by-vertex (rw (← e) (c .before .before .before .before .copy-vertex .ensures))) (c .before .skip .ensures) (c .next-draw .ensures);
-    }
+    let v = c .before .before .before .before .copy-vertex .ensures in
+    record { any = λ cp bp xf. takes-unit refl (by-vertex (rw (← e) v)) (c .before .skip .ensures) (c .next-draw .ensures) }
 
 pub take-vertex-spec : {M : Type 1} → statement M
 take-vertex-spec =
