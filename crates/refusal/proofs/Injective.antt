@@ -1,7 +1,9 @@
 -- Two reasons with the same number are the same reason: each is found again from its number.
 use mathlib.Core.Path.{_≡_, refl, sym, ap, _∙_}
+use mathlib.Core.Bool.{cond}
 use mathlib.Core.List.{List, [], _∷_}
-use Prim.Native.Nat.{ℕ, zero, suc}
+use Prim.Native.Nat.{ℕ}
+use lib.Dec.{eqb}
 use Rattle.refusal.specs.Number.{number}
 use Rattle.refusal.specs.declared.Reason.{Reason}
 use Rattle.refusal.specs.declared.Reason.the-variants.{InvalidState, XfMemoryLength, VertexBufferShort, ReadDisabled}
@@ -10,6 +12,7 @@ use Rattle.refusal.specs.declared.Reason.the-variants.{PositionAbsent, U
 use Rattle.refusal.specs.declared.Reason.the-variants.{PatchOfMaskRegister, PatchMaskTooWide, PatchNumberOutsideMask, OutputShort}
 use Rattle.refusal.specs.declared.Reason.the-variants.{UnknownOffset, UnwritableCommand, NotOfLayout}
 
+-- every reason, in any order
 reasons : List Reason
 reasons =
     InvalidState
@@ -33,19 +36,17 @@ reasons =
     ∷ NotOfLayout
     ∷ []
 
--- the reason at a place of a list, and the first of the table past its end
-nth : List Reason → ℕ → Reason
-nth [] n = InvalidState
-nth (r ∷ rs) zero = r
-nth (r ∷ rs) (suc n) = nth rs n
+-- the first reason of a list with a number, and the table's first where none has it
+firstWith : ℕ → List Reason → Reason
+firstWith n [] = InvalidState
+firstWith n (r ∷ rs) = cond (eqb (number r) n) r (firstWith n rs)
 
 -- the reason with a number
 reasonOf : ℕ → Reason
-reasonOf zero = InvalidState
-reasonOf (suc n) = nth reasons n
+reasonOf n = firstWith n reasons
 
 found : (r : Reason) → reasonOf (number r) ≡ r
-unfolding reasonOf nth reasons
+unfolding reasonOf firstWith reasons
 found InvalidState = refl
 found XfMemoryLength = refl
 found VertexBufferShort = refl
