@@ -9,17 +9,17 @@
  * must not be null, also where its length is 0.
  *
  * A function always returns, and only so, whatever the state words, lengths and
- * bytes are: 0 where the call was accepted, a unit was done or the limit was
- * reached, DUCKHAMMOCK_WAITING, or the number of a refusal; where several apply,
- * the first in the order that its comment gives them. (duckhammock_fresh returns
- * nothing.)
+ * bytes are: 0 where the call was accepted, a unit was shown or done or the limit
+ * was reached, DUCKHAMMOCK_WAITING, or the number of a refusal; where several
+ * apply, the first in the order that its comment gives them. (duckhammock_fresh
+ * returns nothing.)
  *
  * A refused or waiting call changes nothing: no state word, ring byte, XF word
- * or vertex byte, and nothing of what was lent for its values. A step that waits
- * tells in *lacking how many bytes are lacking, and nothing else. A run keeps
- * the units that it did before one was refused or waits, and that one changes
- * nothing; its report is told whatever the answer. An accepted call changes what
- * its comment says and nothing else.
+ * or vertex byte, and nothing of what was lent for its values. A look or a take
+ * that waits tells in *lacking how many bytes are lacking, and nothing else. A run
+ * keeps the units that it did before one was refused or waits, and that one
+ * changes nothing; its report is told whatever the answer. An accepted call
+ * changes what its comment says and nothing else.
  */
 #ifndef DUCKHAMMOCK_H
 #define DUCKHAMMOCK_H
@@ -56,14 +56,14 @@ extern "C" {
  * DUCKHAMMOCK_STATE_WORDS.
  *
  * A word that its field cannot hold is refused by 1 (DUCKHAMMOCK_INVALID_STATE)
- * by the calls that test the field, step and run: a control word above 3F; a BP
- * register above FFFFFF; an array base above 3FFFFFF or stride above FF; a word
+ * by the calls that test the field, look, take and run: a control word above 3F; a
+ * BP register above FFFFFF; an array base above 3FFFFFF or stride above FF; a word
  * for the open draw that is neither 0 (none is open) nor 1; and of a draw that is
  * open a primitive or format above 7, 0 vertices left, or more than 65,535. A
  * feed and the register calls do not test it and leave it as it is, but that a
  * write of the control register replaces its word; a status read takes any word
  * for the open draw but 0 as open. While no draw is open, words 8 to 10 are not
- * looked at, and a step or a run that does a unit leaves them 0 where none is
+ * looked at, and a take or a run that does a unit leaves them 0 where none is
  * open after it.
  */
 enum duckhammock_state_word {
@@ -172,8 +172,8 @@ enum duckhammock_bit {
  */
 enum duckhammock_kind {
     DUCKHAMMOCK_KIND_NO_OPERATION = 0x00,
-    /* A vertex of the open draw; its bytes are at the front of the vertex
-     * buffer. It is never written. */
+    /* A vertex of the open draw; once it is taken, its bytes are at the front
+     * of the vertex buffer. It is never written. */
     DUCKHAMMOCK_KIND_VERTEX = 0x01,
     /* a address [8 bits, then 7], b number */
     DUCKHAMMOCK_KIND_LOAD_CP = 0x08,
@@ -277,7 +277,26 @@ uint32_t duckhammock_feed(uint32_t state[DUCKHAMMOCK_STATE_WORDS],
                           const uint8_t *bytes, size_t bytes_len);
 
 /*
- * Takes one unit: 1 to 10, or waiting. Where it was done, the state words are
+ * Looks at the next unit: 1 to 10, or waiting. Where it is all there, unit tells
+ * the command's five words, an indexed load's memory address among them, and how
+ * many bytes the unit has. Where it waits, *lacking is how many bytes are lacking,
+ * as duckhammock_take counts them; else it stays. Nothing but these two changes:
+ * the unit is not consumed and has no effect.
+ *
+ * The answer is that of duckhammock_take with the same arguments. A look and then
+ * a take, with nothing between, return the same number and tell the same unit, or
+ * the same bytes lacking; and so 2 and 3 are given too, although a look stores no
+ * XF word and no vertex byte.
+ */
+uint32_t duckhammock_look(const uint32_t state[DUCKHAMMOCK_STATE_WORDS],
+                          const uint8_t *ring, size_t ring_len,
+                          const uint32_t *xf, size_t xf_len,
+                          const uint8_t *vertex, size_t vertex_len,
+                          uint32_t unit[DUCKHAMMOCK_UNIT_WORDS],
+                          uint32_t *lacking);
+
+/*
+ * Takes the next unit: 1 to 10, or waiting. Where it was done, the state words are
  * those of the state after it, an XF load has stored its words in xf, a vertex's
  * bytes stand at the front of vertex and the rest of that stays, and unit tells
  * the command's five words and how many bytes the unit has.
@@ -287,10 +306,10 @@ uint32_t duckhammock_feed(uint32_t state[DUCKHAMMOCK_STATE_WORDS],
  * unit: of an XF load first the rest of its head of five bytes, then of its words;
  * in an open draw the rest of the vertex. It is at least 1 and never more than the
  * ring's free room (size - 1 - count), so a feed of just that many bytes is
- * accepted. A loader that always feeds so many takes at most three feeds for a
+ * accepted. A loader that always feeds so many needs at most three feeds for a
  * unit: the opcode, an XF load's head, the rest.
  */
-uint32_t duckhammock_step(uint32_t state[DUCKHAMMOCK_STATE_WORDS],
+uint32_t duckhammock_take(uint32_t state[DUCKHAMMOCK_STATE_WORDS],
                           const uint8_t *ring, size_t ring_len,
                           uint32_t *xf, size_t xf_len,
                           uint8_t *vertex, size_t vertex_len,
@@ -301,9 +320,9 @@ uint32_t duckhammock_step(uint32_t state[DUCKHAMMOCK_STATE_WORDS],
  * Takes units until the limit, waiting or a refusal, 1 to 10, the limit tested
  * first; a run of limit 0 still gives 1 to 5. The report is told whatever the
  * answer. Where units were done, state words, xf and vertex are as those units
- * leave them, one step after the other. A run that waits tells the bytes lacking
- * as a step at the same place would; one that its limit ended tells 0, also where
- * the ring is empty.
+ * leave them, one take after the other. A run that waits tells the bytes lacking
+ * as a look or a take at the same place would; one that its limit ended tells 0,
+ * also where the ring is empty.
  */
 uint32_t duckhammock_run(uint32_t state[DUCKHAMMOCK_STATE_WORDS],
                          const uint8_t *ring, size_t ring_len,

@@ -1,9 +1,9 @@
 /*
- * Sets a window, feeds a few commands, steps through them and decodes a position;
- * loads a stream that is read piece by piece, each piece just as long as the
- * processor says is lacking; then checks, merges and writes two patches of one BP
- * register, feeds them, runs and reads the register back. Ends with 0 only where
- * all was as expected.
+ * Sets a window, feeds a few commands, looks at each unit and then takes it, and
+ * decodes a position; loads a stream that is read piece by piece, each piece just
+ * as long as the processor says is lacking; then checks, merges and writes two
+ * patches of one BP register, feeds them, runs and reads the register back. Ends
+ * with 0 only where all was as expected.
  */
 #include "duckhammock.h"
 
@@ -43,7 +43,7 @@ static const uint8_t stream[] = { 0x10, 0x00, 0x00, 0x00, XF_PLACE, 0x3F, 0x80, 
 static const patch first = { { [REGISTER] = FIRST_MASK }, { [REGISTER] = FIRST_NUMBER } };
 static const patch second = { { [REGISTER] = SECOND_MASK }, { [REGISTER] = SECOND_NUMBER } };
 
-static uint32_t state[DUCKHAMMOCK_STATE_WORDS], xf[DUCKHAMMOCK_XF_WORDS], written, units;
+static uint32_t state[DUCKHAMMOCK_STATE_WORDS], xf[DUCKHAMMOCK_XF_WORDS], written;
 static uint8_t ring[RING_BYTES], vertex[DUCKHAMMOCK_VERTEX_BYTES], output[DUCKHAMMOCK_PATCH_BYTES];
 static patch merged;
 static bool wrong;
@@ -87,17 +87,21 @@ static void feed_patch(const char *what, const patch *p)
     feed(what, output, written);
 }
 
-static void step_through(void)
+/* Shows each unit and then takes it: the take must tell the same. */
+static void look_and_take(void)
 {
-    uint32_t unit[DUCKHAMMOCK_UNIT_WORDS], lacking, answer;
-    while ((answer = duckhammock_step(state, LENT, unit, &lacking)) == DUCKHAMMOCK_DONE) {
-        printf("step: kind %02" PRIX32 ", %" PRIX32 " %" PRIX32 ", %" PRIu32 " bytes\n",
-               unit[DUCKHAMMOCK_COMMAND_KIND], unit[DUCKHAMMOCK_COMMAND_A],
-               unit[DUCKHAMMOCK_COMMAND_B], unit[DUCKHAMMOCK_UNIT_LENGTH]);
-        units++;
+    uint32_t seen[DUCKHAMMOCK_UNIT_WORDS] = { 0 }, taken[DUCKHAMMOCK_UNIT_WORDS] = { 0 }, lacking;
+    for (uint32_t unit = 0; unit < COMMAND_UNITS; unit++) {
+        done("look", duckhammock_look(state, LENT, seen, &lacking));
+        printf("next: kind %02" PRIX32 ", %" PRIX32 " %" PRIX32 ", %" PRIu32 " bytes\n",
+               seen[DUCKHAMMOCK_COMMAND_KIND], seen[DUCKHAMMOCK_COMMAND_A],
+               seen[DUCKHAMMOCK_COMMAND_B], seen[DUCKHAMMOCK_UNIT_LENGTH]);
+        done("take", duckhammock_take(state, LENT, taken, &lacking));
+        for (size_t at = FRONT; at < DUCKHAMMOCK_UNIT_WORDS; at++)
+            expect("word of a unit", taken[at], seen[at]);
     }
-    expect("last step", answer, DUCKHAMMOCK_WAITING);
-    expect("units", units, COMMAND_UNITS);
+    expect("last look", duckhammock_look(state, LENT, seen, &lacking), DUCKHAMMOCK_WAITING);
+    expect("last take", duckhammock_take(state, LENT, taken, &lacking), DUCKHAMMOCK_WAITING);
 }
 
 /* VCD 0 and 1 and format 0's VAT stand in the state one after the other. */
@@ -161,7 +165,7 @@ int main(void)
     for (size_t at = FRONT; at < sizeof commands / sizeof *commands; at++)
         feed_command(commands[at]);
     feed("a vertex", bytes_of_vertex, sizeof bytes_of_vertex);
-    step_through();
+    look_and_take();
     decode_position();
     load(stream, sizeof stream);
     done("check", duckhammock_check_patch(WHOLE(first)));

@@ -19,7 +19,7 @@ use Rattle.running.proofs.Invariant.{none-run}
 use Rattle.words.specs.State.{fifoOf, stateAt, fifoStored}
 use Rattle.words.specs.Promises.{stateWith}
 use Rattle.words.proofs.Holding.{words-promises}
-use Rattle.encoding.specs.Told.{firstOf, stepNumber}
+use Rattle.encoding.specs.Told.{firstOf, answerNumber}
 use Rattle.duckhammock.specs.Calls.{WritesRegister, Feeds, Lent, lentOf, lentBy}
 use Rattle.duckhammock.specs.Promises.{saidBy, CallsPromises}
 
@@ -31,10 +31,10 @@ unfolding written writeAnswer
 write-kept f offset value true w e = absurd (false≢true (sym e ∙ ap (λ (x : Bool). eqb (firstOf (cond x (0 ∷ []) (17 ∷ []))) 0) w))
 write-kept f offset value false w e = rw w
 
-step-kept : (ring : List ℕ) (s : State) (found : Found) → eqb (stepNumber found) 0 ≡ false → after ring s found ≡ s
-step-kept ring s (unit c m n) e = absurd (false≢true (sym e))
-step-kept ring s (waiting k) e = refl
-step-kept ring s (refused r) e = refl
+take-kept : (ring : List ℕ) (s : State) (found : Found) → eqb (answerNumber found) 0 ≡ false → after ring s found ≡ s
+take-kept ring s (unit c m n) e = absurd (false≢true (sym e))
+take-kept ring s (waiting k) e = refl
+take-kept ring s (refused r) e = refl
 
 module _ (words xf vertex : List ℕ) where
   -- a fifo that is stored, or is the one that was there
@@ -64,14 +64,14 @@ module _ (words xf vertex : List ℕ) where
         (fifo-said (eqb r 0) (fifoAfter (fifoOf words) ring bytes) (h .state-is) (λ e. kept e .0), ring-fed (eqb r 0) refl)
 
   module _ (ring : List ℕ) (o : Octets ring) (long : length words ≡ 327) where
-    step-said : (b : Bool) {r : ℕ} {lent' : Lent} → eqb r 0 ≡ b → r ≡ stepNumber (stepFound ring (stateAt words xf vertex))
+    take-said : (b : Bool) {r : ℕ} {lent' : Lent} → eqb r 0 ≡ b → r ≡ answerNumber (stepFound ring (stateAt words xf vertex))
         → lent' ≡ cond b (lentBy (stepOf ring (stateAt words xf vertex))) (lentOf words xf vertex)
         → saidBy lent' ≡ stepOf ring (stateAt words xf vertex)
     unfolding stepOf
-    step-said true b e l = ap saidBy l ∙ words-promises .of-step ring words xf vertex o long
-    step-said false b e l =
+    take-said true b e l = ap saidBy l ∙ words-promises .of-take ring words xf vertex o long
+    take-said false b e l =
         let s = stateAt words xf vertex in
-        ap saidBy l ∙ sym (step-kept ring s (stepFound ring s) (ap (λ (n : ℕ). eqb n 0) (sym e) ∙ b))
+        ap saidBy l ∙ sym (take-kept ring s (stepFound ring s) (ap (λ (n : ℕ). eqb n 0) (sym e) ∙ b))
 
     run-said : (limit : ℕ) (b : Bool) {lent' : Lent} → eqb (length (runOf ring limit (stateAt words xf vertex) .units)) 0 ≡ b
         → lent' ≡ cond b (lentOf words xf vertex) (lentBy (runOf ring limit (stateAt words xf vertex) .state))
@@ -83,7 +83,7 @@ pub calls-promises : CallsPromises
 calls-promises = record {
   after-write = write-said;
   after-feed = feed-said;
-  after-step = λ ring words xf vertex unit lacking r lent' unit' lacking' o n h.
-      step-said words xf vertex ring o n (eqb r 0) refl (h .answer-is) (h .lent-is);
+  after-take = λ ring words xf vertex unit lacking r lent' unit' lacking' o n h.
+      take-said words xf vertex ring o n (eqb r 0) refl (h .told .answer-is) (h .lent-is);
   after-run = λ ring words xf vertex limit r lent' report' o n h. run-said words xf vertex ring o n limit _ refl (h .lent-is);
 }

@@ -5,4 +5,5 @@ pub mod Placed
 pub mod Units
 pub mod Chained
 pub mod Waiting
+pub mod Looks
 pub mod Wholes

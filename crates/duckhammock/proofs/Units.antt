@@ -1,4 +1,4 @@
--- What a step and a run promise: the state that the words say is handed on, and its words are stored where a unit was done.
+-- What a look, a taking and a run promise: the state that the words say is handed on, and its words are stored where a unit was done.
 use mathlib.Core.Path.{_≡_, refl, sym, ap, _∙_}
 use mathlib.Core.Bool.{false, cond}
 use mathlib.Core.Logic.{_⊎_, inl, inr, ⊎-elim}
@@ -21,7 +21,7 @@ use Rattle.fifo.specs.declared.Fifo.{Fifo}
 use Rattle.processor.proofs.StepAnswer as Answers
 use Rattle.processor.specs.declared.StepAnswer.{StepAnswer}
 use Rattle.processor.specs.declared.StepAnswer.the-variants.{Done, Waiting, Refused}
-use Rattle.processor.specs.declared.Stepped.{Stepped}
+use Rattle.processor.specs.declared.taking.TakenUnit.{TakenUnit}
 use Rattle.running.specs.declared.Ran.{Ran}
 use Rattle.processor.specs.State.{State, stateOf}
 use Rattle.processor.specs.Gate.{gateOf}
@@ -31,9 +31,9 @@ use Rattle.running.proofs.Invariant.{none-run}
 use Rattle.words.specs.declared.state.Front.the-variants.{Held}
 use Rattle.words.specs.State.{cpOf, bpOf, stateAt, wordsBy}
 use Rattle.words.specs.Front.{frontOf, wordsAfterUnit}
-use Rattle.encoding.specs.Told.{firstOf, secondOf, stepNumber, lackingOf, unitOf, TellsStep}
+use Rattle.encoding.specs.Told.{firstOf, secondOf, answerNumber, Tells}
 use Rattle.words.proofs.Fits.{held-is}
-use Rattle.duckhammock.specs.Calls.{lentOf, lentBy, Tells, Ends}
+use Rattle.duckhammock.specs.Calls.{lentOf, lentBy, Looks, TakesOne, Ends}
 use Rattle.duckhammock.specs.InPlace.{AheadKept}
 use Rattle.duckhammock.proofs.Placed.{kept-cp, kept-whole}
 use Rattle.duckhammock.proofs.Refusals.{not-zero}
@@ -52,7 +52,7 @@ as-lent of-bp kept left =
     let same = kept-whole kept (ap (λ (x : State). x .bp) left ∙ of-bp) in
     λ i. lentOf (same i) (left i .xf) (left i .buffer)
 
--- ---- a step
+-- ---- a look and a taking
 
 -- an answer that is no unit
 pub isNone : StepAnswer → Type 0
@@ -67,21 +67,19 @@ none (Done d m l) (inr h) = omega arith
 none (Waiting k) h = tt
 none (Refused r) h = tt
 
-module _ (ring : List ℕ) (s : State) (words told : List ℕ) (lacking : ℕ) where
+module _ (ring : List ℕ) (s : State) (told : List ℕ) (lacking : ℕ) where
   -- words too wide: 1
-  pub step-wide : {r : ℕ} → gateOf s (length ring) ≡ 1 → r ≡ number InvalidState
-      → Tells ring s (lentOf words (s .xf) (s .buffer)) told lacking r (lentOf words (s .xf) (s .buffer)) told lacking
+  pub look-wide : {r : ℕ} → gateOf s (length ring) ≡ 1 → r ≡ number InvalidState → Looks ring s told lacking r told lacking
   unfolding stepFound
-  step-wide g e =
-      record {
-        answer-is = rw g e;
-        lacking-is = rw g;
-        unit-is = rw (not-zero InvalidState e);
-        lent-is = rw (not-zero InvalidState e);
-      }
+  look-wide g e = record { answer-is = rw g e; unit-is = rw g; lacking-is = rw g }
+
+  -- an answer told is what was found told
+  pub looks : {found : Found} {told' : List ℕ} {r lacking' : ℕ} → found ≡ stepFound ring s → Tells found told lacking r told' lacking'
+      → Looks ring s told lacking r told' lacking'
+  looks e t = rw e at t
 
   -- waiting or a refusal
-  none-number : (a : StepAnswer) → isNone a → {r : ℕ} → r ≡ stepNumber (meaning a) → eqb r 0 ≡ false
+  none-number : (a : StepAnswer) → isNone a → {r : ℕ} → r ≡ answerNumber (meaning a) → eqb r 0 ≡ false
   unfolding isNone
   none-number (Done c m n) h e = absurd h
   none-number (Waiting k) h {r} e = ne-eqb r 0 (λ z. omega (arith, e, z))
@@ -93,44 +91,40 @@ module _ (ring : List ℕ) (s : State) (words told : List ℕ) (lacking : ℕ) w
   none-after (Waiting k) h = refl
   none-after (Refused reason) h = refl
 
-  pub step-none : {c : Stepped} {cp xf vertex words' : List ℕ} {r lacking' : ℕ} → s .bp ≡ bpOf words
-      → Steps ring s c cp (bpOf words') xf vertex → AheadKept words words' → isNone (c .answer)
-      → TellsStep (meaning (c .answer)) lacking r lacking'
-      → Tells ring s (lentOf words (s .xf) (s .buffer)) told lacking r (lentOf words' xf vertex) told lacking'
-  unfolding stepOf
-  step-none {c} of-bp h kept n e =
-      let z = none-number (c .answer) n (e .answer-is) in
-      let left : _ ≡ s = h .state-is ∙ ap (after ring s) (sym (h .answer-is)) ∙ none-after (c .answer) n in
-      record {
-        answer-is = e .answer-is ∙ ap stepNumber (h .answer-is);
-        lacking-is = e .lacking-is ∙ ap (λ (x : Found). lackingOf x lacking) (h .answer-is);
-        unit-is = rw z;
-        lent-is = rw z (as-lent of-bp kept left);
-      }
-
   -- CP registers are those of the words where a command loads none
   whole-cp : (c cp held : List ℕ) → s .cp ≡ held → cp ≡ cpAfter c (s .cp) → cond (eqb (kindOf c) 0x08) cp held ≡ cp
   unfolding cpAfter
   whole-cp c cp held e h = ⊎-elim (λ z. rw z) (λ z. rw z (sym (rw z at h ∙ e))) (tested (eqb (kindOf c) 0x08))
 
-  pub step-done : {c : Stepped} {cp xf vertex stepped words' told' : List ℕ} (command : Command) (memory n : ℕ)
-      → s .cp ≡ cpOf words
-      → Steps ring s c cp (bpOf stepped) xf vertex → AheadKept words stepped → c .answer ≡ Done command memory n
-      → words' ≡ wordsAfterUnit stepped (kindOf (numbersOf command)) (c .fifo) cp (c .draw)
-      → told' ≡ unitOf (unit (numbersOf command) memory n)
-      → Tells ring s (lentOf words (s .xf) (s .buffer)) told lacking 0 (lentOf words' xf vertex) told' lacking
-  unfolding wordsAfterUnit stepOf executed
-  step-done {c} {cp} {xf} {vertex} {stepped} command memory n of-cp h kept t w u =
-      let found = ap meaning (sym t) ∙ h .answer-is in
-      let left = h .state-is ∙ ap (after ring s) (sym found) in
-      let p = whole-cp (numbersOf command) cp (cpOf stepped) (of-cp ∙ sym (kept-cp kept)) (ap (λ (x : State). x .cp) left) in
-      record {
-        answer-is = ap stepNumber found;
-        lacking-is = ap (λ (x : Found). lackingOf x lacking) found;
-        unit-is = u ∙ ap unitOf found;
-        lent-is =
-            ap (λ (x : List ℕ). lentOf x xf vertex) (w ∙ (λ i. wordsBy (c .fifo) (p i) (bpOf stepped) (c .draw))) ∙ ap lentBy (h .state-is);
-      }
+  module _ (words : List ℕ) where
+    pub take-wide : {r : ℕ} → gateOf s (length ring) ≡ 1 → r ≡ number InvalidState
+        → TakesOne ring s (lentOf words (s .xf) (s .buffer)) told lacking r (lentOf words (s .xf) (s .buffer)) told lacking
+    take-wide g e = record { told = look-wide g e; lent-is = rw (not-zero InvalidState e) }
+
+    module _ {c : TakenUnit} {cp xf vertex taken told' : List ℕ} {r lacking' : ℕ} (h : Steps ring s c cp (bpOf taken) xf vertex)
+        (kept : AheadKept words taken) where
+      pub take-none : s .bp ≡ bpOf words → isNone (c .answer) → Tells (meaning (c .answer)) told lacking r told' lacking'
+          → TakesOne ring s (lentOf words (s .xf) (s .buffer)) told lacking r (lentOf taken xf vertex) told' lacking'
+      unfolding stepOf
+      take-none of-bp n t =
+          let z = none-number (c .answer) n (t .answer-is) in
+          let left : _ ≡ s = h .state-is ∙ ap (after ring s) (sym (h .answer-is)) ∙ none-after (c .answer) n in
+          record { told = looks (h .answer-is) t; lent-is = rw z (as-lent of-bp kept left) }
+
+      pub take-done : {words' : List ℕ} (command : Command) (memory n : ℕ) → s .cp ≡ cpOf words → c .answer ≡ Done command memory n
+          → words' ≡ wordsAfterUnit taken (kindOf (numbersOf command)) (c .fifo) cp (c .draw)
+          → Tells (unit (numbersOf command) memory n) told lacking r told' lacking'
+          → TakesOne ring s (lentOf words (s .xf) (s .buffer)) told lacking r (lentOf words' xf vertex) told' lacking'
+      unfolding wordsAfterUnit stepOf executed
+      take-done command memory n of-cp d w t =
+          let found = ap meaning (sym d) ∙ h .answer-is in
+          let left = h .state-is ∙ ap (after ring s) (sym found) in
+          let p = whole-cp (numbersOf command) cp (cpOf taken) (of-cp ∙ sym (kept-cp kept)) (ap (λ (x : State). x .cp) left) in
+          let stored = w ∙ (λ i. wordsBy (c .fifo) (p i) (bpOf taken) (c .draw)) in
+          record {
+            told = looks found t;
+            lent-is = rw (t .answer-is) (ap (λ (x : List ℕ). lentOf x xf vertex) stored ∙ ap lentBy (h .state-is));
+          }
 
 -- ---- a run
 

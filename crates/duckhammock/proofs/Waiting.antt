@@ -1,4 +1,4 @@
--- What a step and a run on words tell where they wait.
+-- What a look, a taking and a run on words tell where they wait.
 use mathlib.Core.Path.{_≡_, refl, sym, ap, _∙_}
 use mathlib.Core.List.{List}
 use Prim.Native.Nat.{ℕ, _≤_}
@@ -12,25 +12,25 @@ use Rattle.processor.specs.Step.{stepFound}
 use Rattle.running.specs.Run.{runOf}
 use Rattle.running.proofs.Waiting.{lacking-fits, step-refuses, run-stopped}
 use Rattle.words.specs.State.{windowOf, fifoOf, stateAt}
-use Rattle.encoding.specs.Told.{secondOf, stepNumber, lackingOf}
-use Rattle.duckhammock.specs.Calls.{Lent, lentOf, Ends}
+use Rattle.encoding.specs.Told.{secondOf, answerNumber, lackingOf}
+use Rattle.duckhammock.specs.Calls.{Lent, lentOf, Looks, Ends}
 use Rattle.duckhammock.specs.Promises.{saidBy, LackingPromises}
 use Rattle.duckhammock.proofs.Chained.{calls-promises}
 
--- an answer of 255 waits: a step's refusals end at 10
-waits-told : (ring : List ℕ) (s : State) (found : Found) (lacking : ℕ) → stepFound ring s ≡ found → stepNumber found ≡ 255
+-- an answer of 255 waits: refusals of a look end at 10
+waits-told : (ring : List ℕ) (s : State) (found : Found) (lacking : ℕ) → stepFound ring s ≡ found → answerNumber found ≡ 255
     → found ≡ waiting (lackingOf found lacking)
 waits-told ring s (unit c m n) lacking f e = absurd (omega (arith, e))
 waits-told ring s (waiting k) lacking f e = refl
 waits-told ring s (refused r) lacking f e = absurd (omega (arith, step-refuses ring s r f, e))
 
-step-lacks : (ring words xf vertex : List ℕ) (lacking r lacking' : ℕ) → r ≡ stepNumber (stepFound ring (stateAt words xf vertex))
-    → lacking' ≡ lackingOf (stepFound ring (stateAt words xf vertex)) lacking → r ≡ 255
-    → (1 ≤ lacking') × (lacking' ≤ roomOf (windowOf words))
+look-lacks : (ring words xf vertex unit : List ℕ) (lacking r : ℕ) (unit' : List ℕ) (lacking' : ℕ)
+    → Looks ring (stateAt words xf vertex) unit lacking r unit' lacking' → r ≡ 255 → (1 ≤ lacking') × (lacking' ≤ roomOf (windowOf words))
 unfolding fifoOf
-step-lacks ring words xf vertex lacking r lacking' a l e =
+look-lacks ring words xf vertex told lacking r told' lacking' h e =
     let s : State = stateAt words xf vertex in
-    lacking-fits ring s lacking' (waits-told ring s (stepFound ring s) lacking refl (sym a ∙ e) ∙ ap waiting (sym l))
+    let waits = waits-told ring s (stepFound ring s) lacking refl (sym (h .answer-is) ∙ e) in
+    lacking-fits ring s lacking' (waits ∙ ap waiting (sym (h .lacking-is)))
 
 module _ (ring words xf vertex : List ℕ) (limit r : ℕ) (lent' : Lent) (report' : List ℕ) (o : Octets ring) (n : length words ≡ 327)
     (h : Ends (runOf ring limit (stateAt words xf vertex)) (lentOf words xf vertex) r lent' report') (e : r ≡ 255) where
@@ -47,8 +47,9 @@ module _ (ring words xf vertex : List ℕ) (limit r : ℕ) (lent' : Lent) (repor
 pub lacking-promises : LackingPromises
 lacking-promises =
     record {
-      of-step = λ ring words xf vertex unit lacking r lent' unit' lacking' h.
-          step-lacks ring words xf vertex lacking r lacking' (h .answer-is) (h .lacking-is);
+      of-look = look-lacks;
+      of-take = λ ring words xf vertex unit lacking r lent' unit' lacking' h.
+          look-lacks ring words xf vertex unit lacking r unit' lacking' (h .told);
       of-run = run-lacks;
       stopped-at = run-stopped-at;
     }

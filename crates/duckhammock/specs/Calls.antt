@@ -1,6 +1,7 @@
 -- What each call on the state answers and leaves. "A refusal carries its number from document 01; the refused call or unit changes no
 -- register, ring byte or output byte. An unfinished unit waits and changes nothing either": each equation for what was lent says that it is
--- changed where the answer is 0, of a run where it did a unit, and else what it was.
+-- changed where the answer is 0, of a run where it did a unit, and else what it was; but the bytes lacking are told where a unit is waited
+-- for, and a run's report whatever its answer.
 use mathlib.Core.Path.{_≡_}
 use mathlib.Core.Bool.{cond}
 use mathlib.Core.List.{List, [], _∷_}
@@ -13,7 +14,7 @@ use Rattle.processor.specs.State.{State, drawingOf}
 use Rattle.processor.specs.Step.{stepFound, stepOf}
 use Rattle.running.specs.Run.{Ended}
 use Rattle.words.specs.State.{fifoOf, drawOf, stateWords, fifoStored}
-use Rattle.encoding.specs.Told.{firstOf, secondOf, stepNumber, lackingOf, unitOf}
+use Rattle.encoding.specs.Told.{firstOf, secondOf, Tells}
 
 -- the answer of a hardware register read
 abbrev pub readingOf : List ℕ → ℕ → List ℕ
@@ -49,12 +50,14 @@ lentOf words xf vertex = record { words = words; xf = xf; vertex = vertex }
 abbrev pub lentBy : State → Lent
 lentBy s = lentOf (stateWords s) (s .xf) (s .buffer)
 
--- a step at the state s that was lent so: the unit's words, where one was done, and the bytes lacking, where it waits
-pub record Tells (ring : List ℕ) (s : State) (lent : Lent) (unit : List ℕ) (lacking r : ℕ) (lent' : Lent) (unit' : List ℕ) (lacking' : ℕ) :
-    Type 0 where
-  pub answer-is : r ≡ stepNumber (stepFound ring s)
-  pub lacking-is : lacking' ≡ lackingOf (stepFound ring s) lacking
-  pub unit-is : unit' ≡ cond (eqb r 0) (unitOf (stepFound ring s)) unit
+-- a look at the state s: the number, the unit's words, where there is one, and the bytes lacking, where it waits. All else is lent to read
+abbrev pub Looks : List ℕ → State → List ℕ → ℕ → ℕ → List ℕ → ℕ → Type 0
+Looks ring s unit lacking r unit' lacking' = Tells (stepFound ring s) unit lacking r unit' lacking'
+
+-- a taking at the state s that was lent so: it tells what a look tells, and the unit is done
+pub record TakesOne (ring : List ℕ) (s : State) (lent : Lent) (unit : List ℕ) (lacking r : ℕ) (lent' : Lent) (unit' : List ℕ)
+    (lacking' : ℕ) : Type 0 where
+  pub told : Looks ring s unit lacking r unit' lacking'
   pub lent-is : lent' ≡ cond (eqb r 0) (lentBy (stepOf ring s)) lent
 
 -- a run that ended so, of a state that was lent so: the units done and the bytes lacking, 0 unless it waits, are told whatever its answer.

@@ -2,9 +2,9 @@
 // C's words.
 //
 // The state is 327 words that the caller keeps (`words`, specs/State.antt). The number returned is 0 where the call was accepted, a unit
-// was done or the limit was reached, 255 for waiting, and else the refusal's number. A refused or waiting call changes nothing that it was
-// lent, but that waiting tells how many bytes are lacking; a run keeps the units before the one that was refused or waits, and its report
-// is told whatever the answer.
+// is told or was done or the limit was reached, 255 for waiting, and else the refusal's number. A refused or waiting call changes nothing
+// that it was lent, but that waiting tells how many bytes are lacking; a run keeps the units before the one that was refused or waits, and
+// its report is told whatever the answer.
 mod formats;
 mod patches;
 
@@ -22,7 +22,7 @@ pub use patches::duckhammock_write_command;
 pub use patches::duckhammock_write_patch;
 use processor::Gate;
 use processor::StepAnswer;
-use processor::Stepped;
+use processor::TakenUnit;
 use refusal::Reason;
 use running::Ran;
 use words::BP_PLACE;
@@ -36,7 +36,7 @@ ghost use Rattle.processor.specs.Step.{Steps};
 ghost use Rattle.running.specs.Run.{runOf, Reports};
 ghost use Rattle.words.specs.State.{cpOf, bpOf, stateAt, freshWords};
 ghost use Rattle.duckhammock.specs.InPlace.{AheadKept};
-ghost use Rattle.duckhammock.specs.Calls.{ReadsRegister, WritesRegister, Feeds, lentOf, Tells, Ends};
+ghost use Rattle.duckhammock.specs.Calls.{ReadsRegister, WritesRegister, Feeds, lentOf, Looks, TakesOne, Ends};
 
 // The hardware offset of the control register, whose state word may be wider than the register.
 const CONTROL: u16 = 0x002;
@@ -127,8 +127,8 @@ pub extern "C" fn duckhammock_feed(state: &mut [u32; 327], ring: &mut [u8], byte
     0
 }
 
-// A step whose BP registers are lent where they stand among the words.
-fn step_words(
+// A taking whose BP registers are lent where they stand among the words.
+fn take_words(
     state: &mut [u32],
     fifo: Fifo,
     cp: &mut [u32; 60],
@@ -136,14 +136,14 @@ fn step_words(
     ring: &[u8],
     xf: &mut [u32],
     vertex: &mut [u8],
-) -> Stepped
+) -> TakenUnit
     requires { ⌜ length (now state) ≡ 327 ⌝ }
     ensures { λ r. ⌜ (Steps (now (ring .entry))
         (stateOf fifo (now (cp .entry)) (bpOf (now (state .entry))) draw (now (xf .entry)) (now (vertex .entry)))
         r (now (cp .exit)) (bpOf (now (state .exit))) (now (xf .exit)) (now (vertex .exit)))
         × AheadKept (now (state .entry)) (now (state .exit)) ⌝ }
 {
-    processor::step(fifo, cp, &mut state[BP_PLACE..], draw, ring, xf, vertex)
+    processor::take(fifo, cp, &mut state[BP_PLACE..], draw, ring, xf, vertex)
 }
 
 // A run whose BP registers are lent so.
@@ -175,9 +175,32 @@ fn run_words(
     )
 }
 
-// Takes one unit, and tells its command's five words and how many bytes it has; where it waits, how many bytes are lacking.
+// Tells the next unit and changes nothing else: its command's five words and how many bytes it has; where it waits, how many are lacking.
 #[no_mangle]
-pub extern "C" fn duckhammock_step(
+pub extern "C" fn duckhammock_look(
+    state: &[u32; 327],
+    ring: &[u8],
+    xf: &[u32],
+    vertex: &[u8],
+    unit: &mut [u32; 6],
+    lacking: &mut u32,
+) -> u32
+    ensures { λ r. ⌜ Looks (now (ring .entry)) (stateAt (now (state .entry)) (now (xf .entry)) (now (vertex .entry)))
+        (now (unit .entry)) (now (lacking .entry)) r (now (unit .exit)) (now (lacking .exit)) ⌝ }
+{
+    let front = words::read_front(state);
+    let Front::Held { fifo, draw } = front else {
+        return refused(Reason::InvalidState);
+    };
+    let cp = words::cp(state);
+    let all = &state[..];
+    let answer = processor::look(fifo, &cp, &all[BP_PLACE..], draw, ring, xf, vertex);
+    encoding::tell_answer(answer, unit, lacking)
+}
+
+// Takes the next unit, and tells what a look at it tells.
+#[no_mangle]
+pub extern "C" fn duckhammock_take(
     state: &mut [u32; 327],
     ring: &[u8],
     xf: &mut [u32],
@@ -185,7 +208,7 @@ pub extern "C" fn duckhammock_step(
     unit: &mut [u32; 6],
     lacking: &mut u32,
 ) -> u32
-    ensures { λ r. ⌜ Tells (now (ring .entry)) (stateAt (now (state .entry)) (now (xf .entry)) (now (vertex .entry)))
+    ensures { λ r. ⌜ TakesOne (now (ring .entry)) (stateAt (now (state .entry)) (now (xf .entry)) (now (vertex .entry)))
         (lentOf (now (state .entry)) (now (xf .entry)) (now (vertex .entry))) (now (unit .entry))
         (now (lacking .entry)) r (lentOf (now (state .exit)) (now (xf .exit)) (now (vertex .exit)))
         (now (unit .exit)) (now (lacking .exit)) ⌝ }
@@ -195,21 +218,15 @@ pub extern "C" fn duckhammock_step(
         return refused(Reason::InvalidState);
     };
     let mut cp = words::cp(state);
-    let stepped = step_words(state, fifo, &mut cp, draw, ring, xf, vertex);
-    let answer = stepped.answer;
-    let StepAnswer::Done {
-        command,
-        memory,
-        length,
-    } = answer
-    else {
-        return encoding::tell_step(answer, lacking);
+    let taken = take_words(state, fifo, &mut cp, draw, ring, xf, vertex);
+    let answer = taken.answer;
+    let StepAnswer::Done { command, .. } = answer else {
+        return encoding::tell_answer(answer, unit, lacking);
     };
-    let after = stepped.fifo;
-    let left = stepped.draw;
+    let after = taken.fifo;
+    let left = taken.draw;
     words::save_unit(state, command, after, &cp, left);
-    *unit = encoding::unit_words(command, memory, length);
-    0
+    encoding::tell_answer(answer, unit, lacking)
 }
 
 // The first of 1 to 5 that applies to the words as they stand, 0 where none does. The copy is only read, and the compiler leaves it out.

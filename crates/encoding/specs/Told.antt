@@ -1,4 +1,5 @@
--- Answers as numbers: the answer's number, 0 for accepted or done, 255 for waiting, else the refusal's; and the words beside it.
+-- Answers as numbers: the answer's number, 0 for accepted or done or a unit told, 255 for waiting, else the refusal's; and the words beside
+-- it.
 use mathlib.Core.Path.{_≡_}
 use mathlib.Core.Bool.{cond}
 use mathlib.Core.List.{List, [], _∷_, _++_}
@@ -27,25 +28,30 @@ abbrev pub commandWords : List ℕ → ℕ → List ℕ
 commandWords c memory =
     cond (eqb (kindOf c) 0x20) (indexedKind (fieldOf c 1) ∷ fieldOf c 2 ∷ fieldOf c 3 ∷ fieldOf c 4 ∷ memory ∷ []) (padded 5 c)
 
--- a step's answer
-abbrev pub stepNumber : Found → ℕ
-stepNumber (unit c memory n) = 0
-stepNumber (waiting lacking) = 255
-stepNumber (refused r) = r
+-- the six words of a unit: its command and its bytes
+abbrev pub unitWords : List ℕ → ℕ → ℕ → List ℕ
+unitWords c memory n = commandWords c memory ++ (n ∷ [])
 
--- what was lent for the bytes lacking: how many they are where a step waits, and else what it was
+-- the number of what a look or a taking answers
+abbrev pub answerNumber : Found → ℕ
+answerNumber (unit c memory n) = 0
+answerNumber (waiting lacking) = 255
+answerNumber (refused r) = r
+
+-- what was lent for a unit's words: those of the unit where there is one, and else what it was
+abbrev pub unitOf : Found → List ℕ → List ℕ
+unitOf (unit c memory n) old = unitWords c memory n
+unitOf (waiting lacking) old = old
+unitOf (refused r) old = old
+
+-- what was lent for the bytes lacking: how many they are where a unit is waited for, and else what it was
 abbrev pub lackingOf : Found → ℕ → ℕ
 lackingOf (unit c memory n) old = old
 lackingOf (waiting lacking) old = lacking
 lackingOf (refused r) old = old
 
--- a step's answer told, with the bytes lacking
-pub record TellsStep (found : Found) (lacking r lacking' : ℕ) : Type 0 where
-  pub answer-is : r ≡ stepNumber found
+-- what was found, told: the number, the unit and the bytes lacking
+pub record Tells (found : Found) (told : List ℕ) (lacking r : ℕ) (told' : List ℕ) (lacking' : ℕ) : Type 0 where
+  pub answer-is : r ≡ answerNumber found
+  pub unit-is : told' ≡ unitOf found told
   pub lacking-is : lacking' ≡ lackingOf found lacking
-
--- the six words of a unit: its command and its bytes; what is no unit has none
-abbrev pub unitOf : Found → List ℕ
-unitOf (unit c memory n) = commandWords c memory ++ (n ∷ [])
-unitOf (waiting lacking) = []
-unitOf (refused r) = []

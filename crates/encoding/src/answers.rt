@@ -1,19 +1,26 @@
-// The answers of a step and a run as numbers, and the words of a unit.
+// The answers of a look, a taking and a run as numbers, and the words of a unit.
 use command::Command;
 use processor::StepAnswer;
 use running::Stop;
 ghost use mathlib.Core.Path.{_≡_};
-ghost use Rattle.command.specs.Command.{unit, numbersOf};
+ghost use Rattle.command.specs.Command.{numbersOf};
 ghost use Rattle.processor.specs.Step.{meaning};
 ghost use Rattle.running.specs.Run.{meaningOfStop};
-ghost use Rattle.encoding.specs.Told.{firstOf, secondOf, indexedKind, unitOf, TellsStep};
+ghost use Rattle.encoding.specs.Told.{firstOf, secondOf, indexedKind, unitWords, Tells};
 
-// The number of a step's answer, and where it waits the bytes lacking.
-pub fn tell_step(answer: StepAnswer, lacking: &mut u32) -> u32
-    ensures { λ r. ⌜ TellsStep (meaning answer) (now (lacking .entry)) r (now (lacking .exit)) ⌝ }
+// The number of what a look or a taking answers; where there is a unit its words, and where it waits the bytes lacking.
+pub fn tell_answer(answer: StepAnswer, unit: &mut [u32; 6], lacking: &mut u32) -> u32
+    ensures { λ r. ⌜ Tells (meaning answer) (now (unit .entry)) (now (lacking .entry)) r (now (unit .exit)) (now (lacking .exit)) ⌝ }
 {
     match answer {
-        StepAnswer::Done { .. } => 0,
+        StepAnswer::Done {
+            command,
+            memory,
+            length,
+        } => {
+            *unit = unit_words(command, memory, length);
+            0
+        }
         StepAnswer::Waiting(bytes) => {
             *lacking = bytes;
             255
@@ -33,8 +40,8 @@ fn indexed_kind(array: u8) -> u32
 }
 
 // The six words of a unit: those of its command, and its bytes.
-pub fn unit_words(command: Command, memory: u32, n: u32) -> [u32; 6]
-    ensures { λ r. ⌜ r ≡ unitOf (unit (numbersOf command) memory n) ⌝ }
+fn unit_words(command: Command, memory: u32, n: u32) -> [u32; 6]
+    ensures { λ r. ⌜ r ≡ unitWords (numbersOf command) memory n ⌝ }
 {
     match command {
         Command::NoOperation => [0x00, 0, 0, 0, 0, n],

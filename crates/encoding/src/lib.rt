@@ -5,8 +5,7 @@ mod commands;
 
 pub use answers::stop_lacking;
 pub use answers::stop_number;
-pub use answers::tell_step;
-pub use answers::unit_words;
+pub use answers::tell_answer;
 pub use attributes::attribute_words;
 pub use attributes::bits;
 pub use attributes::descriptor;

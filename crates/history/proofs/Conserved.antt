@@ -20,9 +20,9 @@ use Rattle.queue.proofs.FeedLaws.{pending-after}
 use Rattle.queue.proofs.Pending.{length-pending}
 use Rattle.processor.specs.Step.{stepFound, stepOf}
 use Rattle.running.specs.Run.{Taken}
-use Rattle.history.specs.Calls.{World, Call, feed, step, run, write, read, queue, countAt, after, fed}
-use Rattle.history.specs.Calls.{unitsOf, afterAll, fedAll, unitsAll, consumedBy, harmless, Harmless}
-use Rattle.history.specs.Promises.{Conserved}
+use Rattle.history.specs.Calls.{World, Call, feed, take, look, run, write, read, queue, countAt, after, fed}
+use Rattle.history.specs.Calls.{unitsOf, afterAll, fedAll, unitsAll, consumedBy, harmless, Harmless, Listed}
+use Rattle.history.specs.Promises.{Conserved, ListedHarmless}
 use Rattle.history.proofs.Flow.{Flows, flow-found, flow-run}
 
 -- ---- a write of control, clear or a mark leaves the queue
@@ -69,7 +69,8 @@ pub call-flow : (w : World) (c : Call) → Harmless c
     → (queue (after w c) ≡ drop (consumedBy (unitsOf w c)) (queue w ++ fed w c)) × (consumedBy (unitsOf w c) ≤ length (queue w ++ fed w c))
 unfolding stepOf consumedBy Flows
 call-flow w (feed bytes) h = (pending-after (w .state .fifo) (w .ring) bytes, omega arith)
-call-flow w step h = rw (append-nil (queue w)) (flow-found (w .ring) (w .state) (stepFound (w .ring) (w .state)) refl)
+call-flow w take h = rw (append-nil (queue w)) (flow-found (w .ring) (w .state) (stepFound (w .ring) (w .state)) refl)
+call-flow w look h = rw (append-nil (queue w)) (refl, omega arith)
 call-flow w (run limit) h = rw (append-nil (queue w)) (flow-run (w .ring) limit (w .state))
 call-flow w (write o v) h = rw (append-nil (queue w)) (written-kept (w .state .fifo) o v (w .ring) h, omega arith)
 call-flow w (read o) h = rw (append-nil (queue w)) (refl, omega arith)
@@ -103,3 +104,17 @@ conserved w (c ∷ cs) h =
     consumed-append (unitsOf w c) (unitsAll v cs) in
     let l : length (fed w c ++ fedAll v cs) ≡ length (fed w c) + length (fedAll v cs) = length-append (fed w c) (fedAll v cs) in
     omega arith
+
+-- a clear is harmless, and no other write is listed
+call-harmless : (c : Call) → Listed c → Harmless c
+unfolding harmless
+call-harmless (feed bytes) h = tt
+call-harmless take h = tt
+call-harmless look h = tt
+call-harmless (run limit) h = tt
+call-harmless (write offset value) h = rw h refl
+call-harmless (read offset) h = tt
+
+pub listed-harmless : ListedHarmless
+listed-harmless [] h = tt
+listed-harmless (c ∷ cs) h = (call-harmless c (h .0), listed-harmless cs (h .1))

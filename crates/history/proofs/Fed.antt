@@ -1,5 +1,5 @@
--- The promises over feeds and steps, of the machine: answers that more bytes don't change, a full ring that never waits, a written command
--- that is stepped.
+-- The promises over feeds and takings, of the machine: answers that more bytes don't change, a full ring that never waits, a written
+-- command that is taken.
 use mathlib.Core.Path.{_≡_, refl, sym, ap₂, _∙_}
 use mathlib.Core.Logic.{⊎-elim}
 use mathlib.Core.List.{List, [], _++_, append-nil}
@@ -23,7 +23,7 @@ use Rattle.queue.proofs.FeedLaws.{Fits, accepted-fits, pending-after, ready-aft
 use Rattle.fifo.specs.Window.{accept}
 use Rattle.processor.specs.State.{State}
 use Rattle.processor.specs.Gate.{stateFits, gateBy, gateOf}
-use Rattle.processor.specs.Step.{lookAt, executed, stepFound, stepOf}
+use Rattle.processor.specs.Step.{lookAt, executed, stepFound, stepOf, Runnable}
 use Rattle.processor.proofs.Passing.{Passes, gate-passes}
 use Rattle.running.proofs.Waiting.{lacking-fits}
 use Rattle.history.specs.Calls.{World, feed, after}
@@ -62,6 +62,10 @@ module _ (w : World) (bytes : List ℕ) where
   gate-same : gateOf t (length ring') ≡ gateOf s (length (w .ring))
   unfolding gateBy stateFits
   gate-same = rw (ready-same (s .fifo) (w .ring) bytes, control-same (s .fifo) (w .ring) bytes)
+
+  -- a state that passes 1 to 5 passes them after a feed
+  pub runs-fed : Runnable (w .ring) s → Runnable ring' t
+  runs-fed e = gate-same ∙ e
 
   pub feed-longer : Longer (w .ring) s ring' t (bytesAccepted (s .fifo) (w .ring) bytes)
   feed-longer =

@@ -43,7 +43,7 @@ module _ (ring : List ℕ) (s : State) where
   flow-found (waiting k) e = (refl, omega arith)
   flow-found (refused r) e = (refl, omega arith)
 
--- ---- steps
+-- ---- takings in a row
 unfoldable pub Flows : List ℕ → State → List Taken → State → Type 0
 Flows ring s us t = (queueOf ring t ≡ drop (consumedBy us) (queueOf ring s)) × (consumedBy us ≤ length (queueOf ring s))
 

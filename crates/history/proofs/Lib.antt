@@ -1,3 +1,4 @@
+pub mod Looks
 pub mod Flow
 pub mod Conserved
 pub mod More

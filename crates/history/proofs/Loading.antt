@@ -25,7 +25,7 @@ use Rattle.processor.proofs.Passing.{gate-passes}
 use Rattle.running.specs.Run.{runOf}
 use Rattle.running.proofs.Invariant.{none-run}
 use Rattle.running.proofs.Waiting.{lacking-fits}
-use Rattle.history.specs.Calls.{World, Call, feed, step, run, write, read, queue, after, unitsOf, unitsAll}
+use Rattle.history.specs.Calls.{World, Call, feed, take, look, run, write, read, queue, after, unitsOf, unitsAll}
 use Rattle.history.specs.Calls.{Harmless, AllHarmless}
 use Rattle.history.specs.Loading.{stageAt, feedsOf, feedsIn, FeedLacks, FeedsLacking}
 use Rattle.history.specs.Promises.{LackingAccepted, NextStage, ThreeFeeds}
@@ -41,7 +41,7 @@ lacking-accepted w bytes k e l =
     let room : length bytes ≤ roomOf (s .fifo .window) = omega (arith, lacking-fits (w .ring) s k e .1, l) in
     rw (true-ready (s .fifo) (length (w .ring)) ready, le-leb (length bytes) (roomOf (s .fifo .window)) room)
 
--- what a world's queue begins with, and a step that waits
+-- what a world's queue begins with, and a taking, or a look, that waits
 abbrev found : World → Found
 found w = lookAll (queue w) (w .state .cp) (w .state .draw)
 
@@ -96,11 +96,11 @@ module _ (w : World) (g : ℕ) (most : g ≤ 4) (from : From g w) where
       let last = stage-bounds (w .state .draw) (queue w) .1 in
       inl (omega (arith, here, last), λ j e. omega (arith, here, later w bytes waits j e))
 
-  goes-step : (x : Found) → stepFound (w .ring) (w .state) ≡ x → Goes g w step
+  goes-take : (x : Found) → stepFound (w .ring) (w .state) ≡ x → Goes g w take
   unfolding stepOf
-  goes-step (unit c m n) e = inr (refl, rw e (lit≤ tt))
-  goes-step (waiting k) e = inl (omega arith, rw e same-from)
-  goes-step (refused r) e = inl (omega arith, rw e same-from)
+  goes-take (unit c m n) e = inr (refl, rw e (lit≤ tt))
+  goes-take (waiting k) e = inl (omega arith, rw e same-from)
+  goes-take (refused r) e = inl (omega arith, rw e same-from)
 
   goes-run : (limit : ℕ) → Goes g w (run limit)
   goes-run limit =
@@ -116,7 +116,8 @@ module _ (w : World) (g : ℕ) (most : g ≤ 4) (from : From g w) where
 
   goes : (c : Call) → Harmless c → FeedLacks w c → Goes g w c
   goes (feed bytes) h l = goes-feed bytes l
-  goes step h l = goes-step (stepFound (w .ring) (w .state)) refl
+  goes take h l = goes-take (stepFound (w .ring) (w .state)) refl
+  goes look h l = inl (omega arith, same-from)
   goes (run limit) h l = goes-run limit
   goes (write offset value) h l = goes-write offset value h
   goes (read offset) h l = inl (omega arith, same-from)

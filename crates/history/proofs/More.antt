@@ -1,4 +1,5 @@
--- "Answers other than waiting don't change when more bytes are fed": of a step, and of a run that ended by its limit or a refusal.
+-- "Answers other than waiting don't change when more bytes are fed": of a look and a taking, and of a run that ended by its limit or a
+-- refusal.
 use mathlib.Core.Path.{_≡_, refl, sym, ap, _∙_}
 use mathlib.Core.List.{List, _∷_, _++_}
 use Prim.Native.Nat.{ℕ, zero, suc, _+_, min, _≤_}
@@ -16,16 +17,16 @@ use Rattle.queue.proofs.CursorLaws.{reads-pending}
 use Rattle.queue.proofs.Pending.{length-pending}
 use Rattle.processor.specs.State.{State}
 use Rattle.processor.specs.Gate.{gateOf}
-use Rattle.processor.specs.Step.{queueOf, lookAt, executed, stepFound, stepOf}
+use Rattle.processor.specs.Step.{queueOf, lookAt, executed, stepFound, stepOf, Runnable}
 use Rattle.processor.specs.Step as S
 use Rattle.running.specs.Run.{Taken, Ended, goneOn, steps, gated, runLimit, runOf}
 use Rattle.processor.proofs.Passing.{passes-gate}
 use Rattle.processor.proofs.Bridge.{unit-fits}
-use Rattle.processor.proofs.Valid.{step-passes}
+use Rattle.processor.proofs.Valid.{runs-on}
 use Rattle.history.specs.More.{Longer, NotWaiting, SameRun}
 use Rattle.history.proofs.Flow.{step-unit}
 
--- a step that found a unit executed it
+-- a taking that found a unit executed it
 stepped : (ring : List ℕ) (s : State) (c : List ℕ) (m n : ℕ) → stepFound ring s ≡ unit c m n → stepOf ring s ≡ executed ring s c n
 unfolding stepOf
 stepped ring s c m n e = ap (S.after ring s) e
@@ -39,7 +40,7 @@ module _ {ring : List ℕ} {s : State} {ring' : List ℕ} {t : State} {more : Li
   unless-settled zero x y f h = f h
   unless-settled (suc r) x y f h = refl
 
-  -- the answer of a step
+  -- the answer of a look, and of a taking
   pub step-longer : Settled (stepFound ring s) → stepFound ring' t ≡ stepFound ring s
   unfolding stepFound
   step-longer h = rw (l .gate-is) (unless-settled (gateOf s (length ring)) (lookAt ring s) (lookAt ring' t) look-longer h)
@@ -58,10 +59,10 @@ module _ {ring : List ℕ} {s : State} {ring' : List ℕ} {t : State} {more : Li
       let f' = unit-fits ring' t (u' .0 .ready) c m n (sym (u' .1)) in
       let here : n ≤ length q = omega (arith, f .1 .0, length-pending (s .fifo .window) ring) in
       let bytes : take n (queueOf ring' t) ≡ take n q = ap (take n) (l .queue-is) ∙ take-append-le n q more here in
-      let passed = step-passes ring o s (passes-gate s (length ring) (u .0)) in
-      let passed' = step-passes ring' o' t (passes-gate t (length ring') (u' .0)) in
-      let g : gateOf (executed ring s c n) (length ring) ≡ 0 = rw (stepped ring s c m n e) at passed in
-      let g' : gateOf (executed ring' t c n) (length ring') ≡ 0 = rw (stepped ring' t c m n e') at passed' in
+      let passed = runs-on ring o s (passes-gate s (length ring) (u .0)) in
+      let passed' = runs-on ring' o' t (passes-gate t (length ring') (u' .0)) in
+      let g : Runnable ring (executed ring s c n) = rw (stepped ring s c m n e) at passed in
+      let g' : Runnable ring' (executed ring' t c n) = rw (stepped ring' t c m n e') at passed' in
       record {
         cp-is = ap (cpAfter c) (l .cp-is);
         bp-is = ap (bpAfter c) (l .bp-is);
@@ -76,7 +77,7 @@ module _ {ring : List ℕ} {s : State} {ring' : List ℕ} {t : State} {more : Li
             ∙ ap (λ (x : List ℕ). x ++ more) (sym (reads-pending (s .fifo) ring (u .0 .ready) .drop-is n (f .1 .0)));
       }
 
--- ---- steps
+-- ---- takings in a row
 gone-longer : {ring : List ℕ} {s : State} {ring' : List ℕ} {t : State} {more : List ℕ} → Longer ring s ring' t more
     → (found : Found) (e d : Ended)
     → ((c : List ℕ) (m n : ℕ) → found ≡ unit c m n → NotWaiting (e .stop) → SameRun ring e ring' d more)

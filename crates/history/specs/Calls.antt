@@ -19,10 +19,11 @@ pub record World : Type 0 where
   pub state : State
   pub ring : List ℕ
 
--- feeds, steps, runs, and writes and reads of a hardware register; "clears are writes to 004"
+-- feeds, takings, looks, runs, and writes and reads of a hardware register; "clears are writes to 004"
 pub data Call : Type 0 where
   feed : List ℕ → Call
-  step : Call
+  take : Call
+  look : Call
   run : ℕ → Call
   write : ℕ → ℕ → Call
   read : ℕ → Call
@@ -57,11 +58,12 @@ queue w = queueOf (w .ring) (w .state)
 abbrev pub countAt : World → ℕ
 countAt w = countOf (w .state .fifo .window)
 
--- the world after a call: what feed, step, run and write_register promise of it
+-- the world after a call: what feed, take, run and write_register promise of it; a look and a read leave it
 abbrev pub after : World → Call → World
 after w (feed bytes) =
     withRing (withFifo w (fifoAfter (w .state .fifo) (w .ring) bytes)) (ringAfter (w .state .fifo) (w .ring) bytes)
-after w step = withState w (stepOf (w .ring) (w .state))
+after w take = withState w (stepOf (w .ring) (w .state))
+after w look = w
 after w (run limit) = withState w (runOf (w .ring) limit (w .state) .state)
 after w (write offset value) = withFifo w (written (w .state .fifo) offset value)
 after w (read offset) = w
@@ -69,7 +71,8 @@ after w (read offset) = w
 -- the bytes that a call accepted: a feed's, none of a refused one
 abbrev pub fed : World → Call → List ℕ
 fed w (feed bytes) = bytesAccepted (w .state .fifo) (w .ring) bytes
-fed w step = []
+fed w take = []
+fed w look = []
 fed w (run limit) = []
 fed w (write offset value) = []
 fed w (read offset) = []
@@ -80,10 +83,11 @@ answered (unit c m n) = record { command = c; memory = m; length = n } ∷ []
 answered (waiting k) = []
 answered (refused r) = []
 
--- the units that a call answered
+-- the units that a call took and answered: a look takes none
 abbrev pub unitsOf : World → Call → List Taken
 unitsOf w (feed bytes) = []
-unitsOf w step = answered (stepFound (w .ring) (w .state))
+unitsOf w take = answered (stepFound (w .ring) (w .state))
+unitsOf w look = []
 unitsOf w (run limit) = runOf (w .ring) limit (w .state) .units
 unitsOf w (write offset value) = []
 unitsOf w (read offset) = []
@@ -107,13 +111,19 @@ unfoldable pub consumedBy : List Taken → ℕ
 consumedBy [] = 0
 consumedBy (u ∷ us) = u .length + consumedBy us
 
+-- the commands of units
+abbrev pub commandsIn : List Taken → List (List ℕ)
+commandsIn [] = []
+commandsIn (u ∷ us) = u .command ∷ commandsIn us
+
 -- "no window register written between": control, clear and the marks may be, and a refused write writes none
 unfoldable pub harmless : ℕ → Bool
 harmless offset = (eqb offset 2 || eqb offset 4) || (leb 0x28 offset && leb offset 0x2F)
 
 abbrev pub Harmless : Call → Type 0
 Harmless (feed bytes) = Unit {0}
-Harmless step = Unit {0}
+Harmless take = Unit {0}
+Harmless look = Unit {0}
 Harmless (run limit) = Unit {0}
 Harmless (write offset value) = (harmless offset || not (writable offset)) ≡ true
 Harmless (read offset) = Unit {0}
@@ -121,3 +131,17 @@ Harmless (read offset) = Unit {0}
 abbrev pub AllHarmless : List Call → Type 0
 AllHarmless [] = Unit {0}
 AllHarmless (c ∷ cs) = Harmless c × AllHarmless cs
+
+-- the calls of demand 3's list, "feeds, steps, runs and clears": a step is a taking, and a clear is a write to 004; a look may stand among
+-- them too
+abbrev pub Listed : Call → Type 0
+Listed (feed bytes) = Unit {0}
+Listed take = Unit {0}
+Listed look = Unit {0}
+Listed (run limit) = Unit {0}
+Listed (write offset value) = offset ≡ 4
+Listed (read offset) = ⊥
+
+abbrev pub AllListed : List Call → Type 0
+AllListed [] = Unit {0}
+AllListed (c ∷ cs) = Listed c × AllListed cs

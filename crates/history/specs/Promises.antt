@@ -19,10 +19,10 @@ use Rattle.fifo.specs.Window.{Ready, sizeOf}
 use Rattle.queue.specs.Feeding.{accepted}
 use Rattle.queue.specs.Promises.{joined}
 use Rattle.processor.specs.State.{State}
-use Rattle.processor.specs.Gate.{gateOf}
-use Rattle.processor.specs.Step.{stepFound, stepOf}
+use Rattle.processor.specs.Step.{stepFound, stepOf, Runnable}
 use Rattle.running.specs.Run.{runOf}
-use Rattle.history.specs.Calls.{World, Call, feed, queue, countAt, after, fed, afterAll, fedAll, unitsAll, consumedBy, AllHarmless}
+use Rattle.history.specs.Calls.{World, Call, feed, queue, countAt, after, fed, afterAll, fedAll, unitsAll, consumedBy}
+use Rattle.history.specs.Calls.{AllHarmless, AllListed}
 use Rattle.history.specs.More.{NotWaiting, SameRun}
 use Rattle.history.specs.Loading.{stageAt, feedsIn, FeedsLacking}
 
@@ -33,7 +33,12 @@ Conserved =
     (w : World) (cs : List Call) → AllHarmless cs
     → countAt (afterAll w cs) + consumedBy (unitsAll w cs) ≡ countAt w + length (fedAll w cs)
 
--- "Answers other than waiting don't change when more bytes are fed." (proofs/Fed, and those below up to `StepWords`)
+-- the calls of demand 3's list write no window register (proofs/Conserved)
+abbrev pub ListedHarmless : Type 0
+ListedHarmless = (cs : List Call) → AllListed cs → AllHarmless cs
+
+-- "Answers other than waiting don't change when more bytes are fed": of a look, and of a taking (proofs/Fed, and those below up to
+-- `StepWords`)
 abbrev pub StepFed : Type 0
 StepFed =
     (w : World) (bytes : List ℕ) → Settled (stepFound (w .ring) (w .state))
@@ -54,7 +59,7 @@ FullNeverWaits =
 
 -- a command that the writer takes, "alone in a ring that passes 1 to 5 with no draw open"
 pub record WrittenAlone (w : World) (command : Command) (words : List ℕ) : Type 0 where
-  pub passes : gateOf (w .state) (length (w .ring)) ≡ 0
+  pub passes : Runnable (w .ring) (w .state)
   pub closed : w .state .draw ≡ Closed
   pub typed : Typed command
   pub taken : Writable (numbersOf command) words
@@ -84,26 +89,25 @@ abbrev pub FeedsJoined : Type 0
 FeedsJoined =
     (w : World) (p : List ℕ) (ps : List (List ℕ)) → accepted (w .state .fifo) (w .ring) (joined (p ∷ ps)) ≡ true → FedAlike w (p ∷ ps)
 
--- where a step waits, a feed of at most the bytes that are lacking is accepted (proofs/Loading, and the two below)
+-- where a taking, or a look, waits, a feed of at most the bytes that are lacking is accepted (proofs/Loading, and the two below)
 abbrev pub LackingAccepted : Type 0
 LackingAccepted =
     (w : World) (bytes : List ℕ) (k : ℕ) → stepFound (w .ring) (w .state) ≡ waiting k → length bytes ≤ k
     → accepted (w .state .fifo) (w .ring) bytes ≡ true
 
--- after a feed of just as many as are lacking a step takes the unit or is refused, or it waits again, for a later one of these: 1 the
--- opcode, 2 the rest of an XF load's head, 3 the rest of the unit
+-- after a feed of just as many as are lacking a taking takes the unit or is refused, or it waits again, as a look then tells, for a later
+-- one of these: 1 the opcode, 2 the rest of an XF load's head, 3 the rest of the unit
 abbrev pub NextStage : Type 0
 NextStage =
     (w : World) (bytes : List ℕ) (j : ℕ) → stepFound (w .ring) (w .state) ≡ waiting (length bytes)
     → stepFound (after w (feed bytes) .ring) (after w (feed bytes) .state) ≡ waiting j → stageAt w < stageAt (after w (feed bytes))
 
--- a loader that always feeds the lacking number, whatever steps and runs it makes, takes at most three feeds for each unit, and for the one
--- not taken yet: of calls that take no unit, at most three are feeds. No window register is written between
+-- a loader that always feeds the lacking number, whatever takings, looks and runs it makes, needs at most three feeds for each unit, and
+-- for the one not taken yet: of calls that take no unit, at most three are feeds. No window register is written between
 abbrev pub ThreeFeeds : Type 0
 ThreeFeeds = (w : World) (cs : List Call) → AllHarmless cs → FeedsLacking w cs → feedsIn cs ≤ 3 * (length (unitsAll w cs) + 1)
 
 -- a state that passes 1 to 5 passes them after a run (proofs/Passes)
 abbrev pub RunPasses : Type 0
 RunPasses =
-    (ring : List ℕ) → Octets ring → (limit : ℕ) (s : State) → gateOf s (length ring) ≡ 0
-    → gateOf (runOf ring limit s .state) (length ring) ≡ 0
+    (ring : List ℕ) → Octets ring → (limit : ℕ) (s : State) → Runnable ring s → Runnable ring (runOf ring limit s .state)

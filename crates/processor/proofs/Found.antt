@@ -1,5 +1,5 @@
 -- What `take_at` leaves, by what was found.
-use mathlib.Core.Path.{_≡_, refl, sym, subst}
+use mathlib.Core.Path.{_≡_, refl, sym, ap, subst, _∙_}
 use mathlib.Core.List.{List}
 use Prim.Native.Nat.{ℕ, _≤_}
 use Rattle.refusal.specs.Number.{number}
@@ -11,13 +11,21 @@ use Rattle.command.specs.Look.{lookOf}
 use Rattle.command.proofs.Bounds.{Fair, look-fair}
 use Rattle.effect.specs.Effect.{drawAfter, Applied}
 use Rattle.queue.specs.declared.Cursor.{Cursor}
-use Rattle.queue.specs.Cursor.{skipped}
+use Rattle.queue.specs.Cursor.{peeked, skipped}
 use Rattle.processor.specs.declared.StepAnswer.the-variants.{Done, Waiting, Refused}
-use Rattle.processor.specs.Cursor.{bytesAt, Takes}
+use Rattle.processor.specs.Cursor.{seen, bytesAt, Takes}
 
--- a unit that is looked at has at most 129 bytes
-pub unit-most : (b : List ℕ) (n : ℕ) (cp : List ℕ) (draw : Draw) (c : List ℕ) (m l : ℕ) → unit c m l ≡ lookOf b n cp draw → l ≤ 129
-unit-most b n cp draw c m l e = subst (Fair n) (sym e) (look-fair b n cp draw) .1 .1
+-- what is found by a cursor's first bytes is what it begins with
+pub seen-by : (cursor : Cursor) (ring cp : List ℕ) (draw : Draw) {b : List ℕ} {found : Found} → b ≡ peeked cursor ring
+    → found ≡ lookOf b (cursor .left) cp draw → found ≡ seen cursor ring cp draw
+unfolding seen
+seen-by cursor ring cp draw p f = f ∙ ap (λ (b : List ℕ). lookOf b (cursor .left) cp draw) p
+
+-- a unit that a cursor begins with has at most 129 bytes
+pub seen-most : (cursor : Cursor) (ring cp : List ℕ) (draw : Draw) (c : List ℕ) (m l : ℕ) → unit c m l ≡ seen cursor ring cp draw → l ≤ 129
+unfolding seen
+seen-most cursor ring cp draw c m l e =
+    subst (Fair (cursor .left)) (sym e) (look-fair (peeked cursor ring) (cursor .left) cp draw) .1 .1
 
 module _ {found : Found} {cursor : Cursor} {ring cp bp : List ℕ} {draw : Draw} {xf buffer : List ℕ} where
   pub takes-unit : {command : Command} {memory length : ℕ} {cursor' : Cursor} {draw' : Draw} {cp' bp' xf' buffer' : List ℕ}
@@ -42,7 +50,8 @@ module _ {found : Found} {cursor : Cursor} {ring cp bp : List ℕ} {draw : Draw}
       rw (← e)
       (record { answer-is = refl; cursor-is = refl; draw-is = refl; cp-is = refl; bp-is = refl; xf-is = refl; buffer-is = refl })
 
-  pub takes-refused : {r : Reason} → refused (number r) ≡ found → Takes found cursor ring cp bp draw xf buffer (Refused r) cursor draw cp bp xf buffer
+  pub takes-refused : {r : Reason} → refused (number r) ≡ found
+      → Takes found cursor ring cp bp draw xf buffer (Refused r) cursor draw cp bp xf buffer
   takes-refused e =
       rw (← e)
       (record { answer-is = refl; cursor-is = refl; draw-is = refl; cp-is = refl; bp-is = refl; xf-is = refl; buffer-is = refl })

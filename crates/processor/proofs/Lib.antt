@@ -7,3 +7,4 @@ pub mod Stays
 pub mod Valid
 pub mod Stepping
 pub mod Meanings
+pub mod Looks

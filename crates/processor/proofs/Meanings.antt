@@ -1,4 +1,4 @@
--- What an answer says determines the answer: of a step, and of the test of 1 to 5.
+-- What an answer says determines the answer: of a look or a taking, and of the test of 1 to 5.
 use mathlib.Core.Path.{_≡_, refl, sym, ap, _∙_}
 use mathlib.Core.List.{List}
 use Prim.Native.Nat.{ℕ}
@@ -18,7 +18,7 @@ use Rattle.processor.specs.declared.Gate.the-variants as G
 use Rattle.processor.specs.Step.{meaning}
 use Rattle.processor.specs.Gate.{meaningOfGate}
 
--- ---- a step's answer is what a look found, under other names
+-- ---- the answer of a look or a taking is what `command::look` found, under other names
 foundOf : StepAnswer → Next
 foundOf (Done command memory length) = N.Unit command memory length
 foundOf (Waiting lacking) = N.Waiting lacking

@@ -1,4 +1,4 @@
--- What `step` promises, for a refusal by 1 to 5 and for a unit.
+-- What `look` and `take` promise, for a refusal by 1 to 5 and past these.
 use mathlib.Core.Path.{_≡_, sym, ap, _∙_}
 use mathlib.Core.List.{List, [], _∷_}
 use Prim.Native.Nat.{ℕ}
@@ -20,7 +20,8 @@ use Rattle.processor.specs.State.{State, stateOf}
 use Rattle.processor.specs.Gate.{gateOf}
 use Rattle.processor.specs.Step.{lookAt, executed, after, stepFound, stepOf, Steps}
 use Rattle.processor.proofs.Passing.{Passes, gate-passes}
-use Rattle.processor.proofs.Bridge.{TakesUnit}
+use Rattle.processor.specs.Cursor.{seen}
+use Rattle.processor.proofs.Bridge.{TakesUnit, seen-is}
 
 module _ (ring : List ℕ) (fifo : Fifo) (cp bp : List ℕ) (draw : Draw) (xf buffer : List ℕ) where
   abbrev s : State
@@ -59,3 +60,11 @@ module _ (ring : List ℕ) (s : State) where
       let p : Passes s (length ring) = gate-passes s (length ring) g in
       let h = f ∙ ap (closed (s .fifo)) (t .cursor-is) ∙ closed-after ring s (p .ready) (lookAt ring s) in
       record { answer-is = rw g (t .answer-is); state-is = rw (g, h) (t .state-is) }
+
+  -- a look past the gate
+  pub looks-passed : gateOf s (length ring) ≡ 0 → {cursor : Cursor} {found : Found} → cursor ≡ opened (s .fifo)
+      → found ≡ seen cursor ring (s .cp) (s .draw) → found ≡ stepFound ring s
+  unfolding stepFound
+  looks-passed g e f =
+      let p : Passes s (length ring) = gate-passes s (length ring) g in
+      rw g (f ∙ ap (λ (x : Cursor). seen x ring (s .cp) (s .draw)) e ∙ seen-is ring s (p .ready))

@@ -13,8 +13,7 @@ use Rattle.fifo.specs.Window.{consume}
 use Rattle.queue.proofs.Moves.{ready-consume}
 use Rattle.queue.proofs.Pending.{pending-each}
 use Rattle.processor.specs.State.{State}
-use Rattle.processor.specs.Gate.{gateOf}
-use Rattle.processor.specs.Step.{queueOf, lookAt, executed, after, stepFound, stepOf}
+use Rattle.processor.specs.Step.{queueOf, lookAt, executed, after, stepFound, stepOf, Runnable}
 use Rattle.processor.proofs.Passing.{Passes, gate-passes, passes-gate}
 use Rattle.processor.proofs.Stays.{bp-stays, cp-stays, draw-stays}
 
@@ -23,7 +22,8 @@ pub queue-octets : (ring : List ℕ) (s : State) → Octets ring → Octets (que
 queue-octets ring s o k = pending-each (λ (x : ℕ). x < 256) (s .fifo .window) ring (lit< tt) o k
 
 -- a command whose fields fit their registers
-pub executed-passes : (ring : List ℕ) (s : State) (c : List ℕ) (n : ℕ) → Ranged c → Passes s (length ring) → Passes (executed ring s c n) (length ring)
+pub executed-passes : (ring : List ℕ) (s : State) (c : List ℕ) (n : ℕ) → Ranged c → Passes s (length ring)
+    → Passes (executed ring s c n) (length ring)
 unfolding executed consume
 executed-passes ring s c n r p =
     let u : List ℕ = take n (queueOf ring s) in
@@ -39,6 +39,16 @@ executed-passes ring s c n r p =
       unlinked = p .unlinked;
     }
 
+-- past the gate a look finds what the queue begins with
+pub runs-found : (ring : List ℕ) (s : State) → Runnable ring s → stepFound ring s ≡ lookAt ring s
+unfolding stepFound
+runs-found ring s e = ap (λ (r : ℕ). unlessRefused r (lookAt ring s)) e
+
+-- and a taking takes it
+pub step-after : (ring : List ℕ) (s : State) → Runnable ring s → stepOf ring s ≡ after ring s (lookAt ring s)
+unfolding stepOf
+step-after ring s e = ap (after ring s) (runs-found ring s e)
+
 module _ (ring : List ℕ) (o : Octets ring) (s : State) where
   ranged : (c : List ℕ) (m n : ℕ) → unit c m n ≡ lookAt ring s → Ranged c
   unfolding lookAt
@@ -49,16 +59,8 @@ module _ (ring : List ℕ) (o : Octets ring) (s : State) where
   after-passes (waiting k) e p = p
   after-passes (refused r) e p = p
 
-  -- past the gate a step finds what the queue begins with
-  pub step-passed : gateOf s (length ring) ≡ 0 → stepFound ring s ≡ lookAt ring s
-  unfolding stepFound
-  step-passed e = ap (λ (r : ℕ). unlessRefused r (lookAt ring s)) e
-
-  pub step-after : gateOf s (length ring) ≡ 0 → stepOf ring s ≡ after ring s (lookAt ring s)
-  unfolding stepOf
-  step-after e = ap (after ring s) (step-passed e)
-
-  -- a state that passes 1 to 5 passes them after a step
-  pub step-passes : gateOf s (length ring) ≡ 0 → gateOf (stepOf ring s) (length ring) ≡ 0
-  step-passes e =
-      rw (step-after e) (passes-gate (after ring s (lookAt ring s)) (length ring) (after-passes (lookAt ring s) refl (gate-passes s (length ring) e)))
+  -- a state that passes 1 to 5 passes them after a taking
+  pub runs-on : Runnable ring s → Runnable ring (stepOf ring s)
+  runs-on e =
+      let p = after-passes (lookAt ring s) refl (gate-passes s (length ring) e) in
+      rw (step-after ring s e) (passes-gate (after ring s (lookAt ring s)) (length ring) p)

@@ -1,4 +1,4 @@
--- One unit over a cursor: what `take_at` promises for every cursor and ring. For a ready fifo it is one unit of its queue.
+-- One unit over a cursor: what `look_at` and `take_at` promise for every cursor and ring. For a ready fifo it is one unit of its queue.
 use mathlib.Core.Path.{_≡_}
 use mathlib.Core.List.{List}
 use Prim.Native.Nat.{ℕ}

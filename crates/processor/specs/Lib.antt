@@ -3,3 +3,4 @@ pub mod Gate
 pub mod Joined
 pub mod Step
 pub mod Cursor
+pub mod Promises

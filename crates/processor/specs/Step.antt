@@ -1,4 +1,6 @@
--- One unit of the stream: looked at, executed, consumed ("Units of the stream"; demand 2).
+-- One unit of the stream: looked at, executed, consumed ("Units of the stream"; demand 2). Document 02, L6: "where the mission, document 01
+-- or another ticket says step, read taking". What a look answers, and a taking too, is `stepFound`; what a taking leaves is `stepOf`, and a
+-- look leaves everything as it was.
 use mathlib.Core.Path.{_≡_}
 use mathlib.Core.List.{List}
 use Prim.Native.Nat.{ℕ}
@@ -11,7 +13,7 @@ use Rattle.fifo.specs.Window.{consume}
 use Rattle.queue.specs.Pending.{pending}
 use Rattle.processor.specs.declared.StepAnswer.{StepAnswer}
 use Rattle.processor.specs.declared.StepAnswer.the-variants.{Done, Waiting, Refused}
-use Rattle.processor.specs.declared.Stepped.{Stepped}
+use Rattle.processor.specs.declared.taking.TakenUnit.{TakenUnit}
 use Rattle.processor.specs.State.{State, stateOf}
 use Rattle.processor.specs.Gate.{gateOf}
 
@@ -47,15 +49,19 @@ after ring s (unit c m n) = executed ring s c n
 after ring s (waiting k) = s
 after ring s (refused r) = s
 
--- a step's answer: one of 1 to 5, or what is found
+-- the answer of a look and of a taking: one of 1 to 5, or what is found
 unfoldable pub stepFound : List ℕ → State → Found
 stepFound ring s = unlessRefused (gateOf s (length ring)) (lookAt ring s)
 
--- the state after a step
+-- the state after a taking
 unfoldable pub stepOf : List ℕ → State → State
 stepOf ring s = after ring s (stepFound ring s)
 
--- what a step at the state s leaves and answers
-pub record Steps (ring : List ℕ) (s : State) (r : Stepped) (cp bp xf buffer : List ℕ) : Type 0 where
+-- past 1 to 5: a look finds what the queue begins with, and a taking takes it
+abbrev pub Runnable : List ℕ → State → Type 0
+Runnable ring s = gateOf s (length ring) ≡ 0
+
+-- what a taking at the state s leaves and answers
+pub record Steps (ring : List ℕ) (s : State) (r : TakenUnit) (cp bp xf buffer : List ℕ) : Type 0 where
   pub answer-is : meaning (r .answer) ≡ stepFound ring s
   pub state-is : stateOf (r .fifo) cp bp (r .draw) xf buffer ≡ stepOf ring s

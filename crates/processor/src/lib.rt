@@ -1,4 +1,5 @@
-// The processor: the registers that ports share, and one unit of the stream (document 01's "bench").
+// The processor: the registers that ports share, and one unit of the stream, looked at or taken (document 01's "bench").
+mod looking;
 mod taking;
 mod tests;
 
@@ -6,17 +7,21 @@ use command::Command;
 use command::Draw;
 use fifo::Fifo;
 use fifo::Reading;
+pub use looking::look;
+pub use looking::look_at;
 use refusal::Reason;
 pub use taking::Moved;
+pub use taking::TakenUnit;
+pub use taking::take;
 pub use taking::take_at;
 pub use tests::pass;
+pub use tests::registers_fit;
 ghost use mathlib.Core.Path.{_≡_};
 ghost use Rattle.fifo.specs.Answers.{meaningOfReading};
 ghost use Rattle.fifo.specs.Registers.{readAnswer};
-ghost use Rattle.processor.specs.State.{stateOf, freshMachine, drawingOf};
-ghost use Rattle.processor.specs.Step.{Steps};
+ghost use Rattle.processor.specs.State.{freshMachine, drawingOf};
 
-// What ports share: the 60 CP registers, the 256 BP registers, and the open draw. A step and a run are lent the registers.
+// What ports share: the 60 CP registers, the 256 BP registers, and the open draw. A look, a taking and a run are lent the registers.
 pub struct Registers {
     pub cp: [u32; 60],
     pub bp: [u32; 256],
@@ -35,9 +40,10 @@ pub enum Gate {
     Refused(Reason),
 }
 
-// "step answer enum whose done case holds the command enum and whose refused case holds the reason enum"
+// "step answer enum whose done case holds the command enum and whose refused case holds the reason enum": what a look and a taking answer.
 pub enum StepAnswer {
-    // A unit: its command, the memory address that an indexed load reports (0 for every other command), and its bytes.
+    // A unit, told by a look and done by a taking: its command, the memory address that an indexed load reports (0 for every other
+    // command), and its bytes.
     Done {
         command: Command,
         memory: u32,
@@ -46,13 +52,6 @@ pub enum StepAnswer {
     // That many bytes are lacking.
     Waiting(u32),
     Refused(Reason),
-}
-
-// What a step leaves of the fifo and the draw, and its answer.
-pub struct Stepped {
-    pub fifo: Fifo,
-    pub draw: Draw,
-    pub answer: StepAnswer,
 }
 
 // "Every BP register of the fresh machine is named": 256 zero words with place FE then set.
@@ -88,39 +87,4 @@ pub fn read_register(fifo: Fifo, registers: Registers, offset: u16) -> Reading
 {
     let draw = registers.draw;
     fifo::read_register(fifo, drawing(draw), offset)
-}
-
-// One unit: refusals 1 to 5, then the look at the queue, the command's effect, and its bytes dropped.
-pub fn step(
-    fifo: Fifo,
-    cp: &mut [u32; 60],
-    bp: &mut [u32],
-    draw: Draw,
-    ring: &[u8],
-    xf: &mut [u32],
-    buffer: &mut [u8],
-) -> Stepped
-    ensures { λ r. ⌜ Steps (now (ring .entry))
-        (stateOf fifo (now (cp .entry)) (now (bp .entry)) draw (now (xf .entry)) (now (buffer .entry)))
-        r (now (cp .exit)) (now (bp .exit)) (now (xf .exit)) (now (buffer .exit)) ⌝ }
-{
-    let gate = pass(fifo, cp, bp, draw, ring.len(), xf.len(), buffer.len());
-    match gate {
-        Gate::Refused(reason) => Stepped {
-            fifo,
-            draw,
-            answer: StepAnswer::Refused(reason),
-        },
-        Gate::Passed => {
-            let moved = take_at(queue::open(fifo), ring, cp, bp, draw, xf, buffer);
-            let draw = moved.draw;
-            let answer = moved.answer;
-            let cursor = moved.cursor;
-            Stepped {
-                fifo: queue::close(fifo, cursor),
-                draw,
-                answer,
-            }
-        }
-    }
 }

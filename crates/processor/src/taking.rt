@@ -1,17 +1,29 @@
-// One unit taken off a cursor: looked at, executed, consumed.
+// The next unit taken: looked at, executed, consumed.
+use crate::Gate;
 use crate::StepAnswer;
+use crate::tests;
 use command::Command;
 use command::Draw;
 use command::Next;
+use fifo::Fifo;
 use queue::Cursor;
 ghost use Prim.Native.Nat.{_≤_};
 ghost use Rattle.command.specs.Command.{numbersOf};
 ghost use Rattle.effect.specs.Effect.{Applied};
 ghost use Rattle.processor.specs.Cursor.{seen, bytesAt, Takes};
+ghost use Rattle.processor.specs.State.{stateOf};
+ghost use Rattle.processor.specs.Step.{Steps};
 
 // What one unit leaves of the cursor and the draw, and its answer.
 pub struct Moved {
     pub cursor: Cursor,
+    pub draw: Draw,
+    pub answer: StepAnswer,
+}
+
+// What a taking leaves of the fifo and the draw, and its answer.
+pub struct TakenUnit {
+    pub fifo: Fifo,
     pub draw: Draw,
     pub answer: StepAnswer,
 }
@@ -44,7 +56,8 @@ fn execute(
     effect::apply(command, &bytes[..n as usize], cp, bp, xf, buffer);
 }
 
-// Takes the unit that the cursor begins with, or answers why there is none. It tests none of 1 to 5.
+// Takes the unit that the cursor begins with, or answers why there is none. It tests none of 1 to 5, and looks by the same two calls as
+// `look_at`, in place.
 pub fn take_at(
     cursor: Cursor,
     ring: &[u8],
@@ -87,5 +100,40 @@ pub fn take_at(
             draw,
             answer: StepAnswer::Refused(reason),
         },
+    }
+}
+
+// Takes the next unit: 1 to 5, then the look at the queue, the command's effect, and its bytes dropped.
+pub fn take(
+    fifo: Fifo,
+    cp: &mut [u32; 60],
+    bp: &mut [u32],
+    draw: Draw,
+    ring: &[u8],
+    xf: &mut [u32],
+    buffer: &mut [u8],
+) -> TakenUnit
+    ensures { λ r. ⌜ Steps (now (ring .entry))
+        (stateOf fifo (now (cp .entry)) (now (bp .entry)) draw (now (xf .entry)) (now (buffer .entry)))
+        r (now (cp .exit)) (now (bp .exit)) (now (xf .exit)) (now (buffer .exit)) ⌝ }
+{
+    let gate = tests::pass(fifo, cp, bp, draw, ring.len(), xf.len(), buffer.len());
+    match gate {
+        Gate::Refused(reason) => TakenUnit {
+            fifo,
+            draw,
+            answer: StepAnswer::Refused(reason),
+        },
+        Gate::Passed => {
+            let moved = take_at(queue::open(fifo), ring, cp, bp, draw, xf, buffer);
+            let draw = moved.draw;
+            let answer = moved.answer;
+            let cursor = moved.cursor;
+            TakenUnit {
+                fifo: queue::close(fifo, cursor),
+                draw,
+                answer,
+            }
+        }
     }
 }

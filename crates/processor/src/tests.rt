@@ -57,8 +57,8 @@ fn draw_fits(draw: Draw) -> bool
     }
 }
 
-// BP registers of 24 bits, bases, strides and the draw.
-fn registers_fit(cp: &[u32; 60], bp: &[u32], draw: Draw) -> bool
+// The part of 1 that is about the registers and the draw: BP registers of 24 bits, bases, strides, the draw's numbers.
+pub fn registers_fit(cp: &[u32; 60], bp: &[u32], draw: Draw) -> bool
     ensures { λ r. ⌜ r ≡ registersFit (now (cp .entry)) (now (bp .entry)) draw ⌝ }
 {
     bp_fits(bp) & (cp_fits(cp) & draw_fits(draw))

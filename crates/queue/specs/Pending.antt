@@ -1,4 +1,4 @@
--- The queue that the ring holds. All that is said of feeding and stepping is said over this list.
+-- The queue that the ring holds. All that is said of feeding, looking and taking is said over this list.
 use Prim.Native.Nat.{ℕ}
 use mathlib.Core.List.{List}
 use lib.ListN.{getD}

@@ -21,7 +21,7 @@ use Rattle.processor.specs.Step.{meaning, lookAt, executed, after, stepOf}
 use Rattle.running.specs.Run.{Taken, Ended, stopOf, goneOn, steps, Arrives}
 use Rattle.processor.proofs.Passing.{Passes, gate-passes, passes-gate}
 use Rattle.processor.proofs.Bridge.{TakesUnit}
-use Rattle.processor.proofs.Valid.{after-passes, step-passed, step-after}
+use Rattle.processor.proofs.Valid.{after-passes, runs-found, step-after}
 
 -- the state of a run that began with a fifo and has consumed so many bytes
 abbrev pub hereOf : Fifo → ℕ → List ℕ → List ℕ → Draw → List ℕ → List ℕ → State
@@ -88,11 +88,11 @@ module _ (ring : List ℕ) (o : Octets ring) where
   unfolding steps
   unit-step k h p c m n e =
       let g = passes-gate h (length ring) p in
-      rw (step-passed ring o h g, step-after ring o h g, e)
+      rw (runs-found ring h g, step-after ring h g, e)
 
   other-step : (k : ℕ) (h : State) → Passes h (length ring) → steps ring (suc k) h ≡ goneOn (lookAt ring h) h (steps ring k (stepOf ring h))
   unfolding steps
-  other-step k h p = rw (step-passed ring o h (passes-gate h (length ring) p))
+  other-step k h p = rw (runs-found ring h (passes-gate h (length ring) p))
 
   module _ {limit : ℕ} {s : State} {cursor : Cursor} {cp bp : List ℕ} {draw : Draw} {xf buffer : List ℕ} {units : ℕ}
       (at : Course ring limit s cursor cp bp draw xf buffer units) (less : units < limit) where

@@ -40,7 +40,7 @@ module _ (ring : List ℕ) (P : State → Ended → Type 0) (h : Inductive ring 
   run-holds limit s =
       gated-holds (gateOf s (length ring)) s (steps ring (min limit runLimit) s) refl (steps-hold (min limit runLimit) s)
 
--- what a state has, and keeps through every step, the state that a run leaves has
+-- what a state has, and keeps through every taking, the state that a run leaves has
 pub run-keeps : (ring : List ℕ) (Has : State → Type 0) → ((s : State) → Has s → Has (stepOf ring s))
     → (limit : ℕ) (s : State) → Has s → Has (runOf ring limit s .state)
 run-keeps ring Has stays =

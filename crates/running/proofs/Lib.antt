@@ -5,4 +5,5 @@ pub mod Runs
 pub mod Meanings
 pub mod Invariant
 pub mod Waiting
+pub mod Takings
 pub mod Unlooked

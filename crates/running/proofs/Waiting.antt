@@ -1,4 +1,4 @@
--- What a step and a run that wait promise: at least one byte is lacking and never more than there is room for.
+-- What a look, a taking and a run that wait promise: at least one byte is lacking and never more than there is room for.
 use mathlib.Core.Path.{_≡_, ap, subst, _∙_}
 use mathlib.Core.List.{List}
 use Prim.Native.Nat.{ℕ, zero, suc, _≤_}
@@ -31,14 +31,18 @@ lacking-fits ring s k e =
     let l : Fair (length (queueOf ring s)) (waiting k) = subst (Fair (length (queueOf ring s))) (u .1) (fair ring s) in
     (l .0, omega (arith, l .1, length-pending (s .fifo .window) ring, p .ready .valid .least))
 
--- ---- a step's refusals are 1 to 10
-at-most : (n g r : ℕ) (x : Found) → g ≤ 5 → Fair n x → unlessRefused g x ≡ refused r → r ≤ 10
-at-most n zero r x h f e = subst (Fair n) e f .1
-at-most n (suc g) r x h f e = let z : suc g ≡ r = cc in omega (arith, h, z)
+-- ---- refusals of a look and of a taking are 1 to 10
+within-ten : (n g r : ℕ) (x : Found) → g ≤ 5 → Fair n x → unlessRefused g x ≡ refused r → (1 ≤ r) × (r ≤ 10)
+within-ten n zero r x h f e =
+    let q : Fair n (refused r) = subst (Fair n) e f in
+    (omega (arith, q), q .1)
+within-ten n (suc g) r x h f e =
+    let z : suc g ≡ r = cc in
+    (omega (arith, z), omega (arith, h, z))
 
-pub step-refuses : (ring : List ℕ) (s : State) (r : ℕ) → stepFound ring s ≡ refused r → r ≤ 10
+pub step-refuses : (ring : List ℕ) (s : State) (r : ℕ) → stepFound ring s ≡ refused r → (1 ≤ r) × (r ≤ 10)
 unfolding stepFound
-step-refuses ring s r e = at-most _ (gateOf s (length ring)) r (lookAt ring s) (gate-most s (length ring)) (fair ring s) e
+step-refuses ring s r e = within-ten _ (gateOf s (length ring)) r (lookAt ring s) (gate-most s (length ring)) (fair ring s) e
 
 -- ---- a run
 

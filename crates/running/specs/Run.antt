@@ -44,12 +44,12 @@ goneOn (unit c m n) s e = ended (record { command = c; memory = m; length = n } 
 goneOn (waiting k) s e = ended [] (stopOf (waiting k)) s
 goneOn (refused r) s e = ended [] (stopOf (refused r)) s
 
--- steps until the limit, waiting or a refusal, the limit tested first
+-- takings until the limit, waiting or a refusal, the limit tested first
 unfoldable pub steps : List ℕ → ℕ → State → Ended
 steps ring zero s = ended [] (0 ∷ []) s
 steps ring (suc n) s = goneOn (stepFound ring s) s (steps ring n (stepOf ring s))
 
--- where steps arrive: how many there were, why they ended, and what they left
+-- where these arrive: how many there were, why they ended, and what they left
 pub record Arrives (ring : List ℕ) (limit : ℕ) (s : State)
     (stop : List ℕ) (fifo : Fifo) (cp bp : List ℕ) (draw : Draw) (xf buffer : List ℕ) (units : ℕ) : Type 0 where
   pub units-are : units ≡ length (steps ring limit s .units)

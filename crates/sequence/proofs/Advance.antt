@@ -1,33 +1,36 @@
--- The history of a list of calls: the loads that were executed, and the bytes of those that are left.
-use mathlib.Core.Path.{_≡_, refl, sym, ap, _∙_}
-use mathlib.Core.Logic.{_⊎_, inl, inr, ⊎-elim}
+-- The history of a list of calls: the loads that were executed, as the calls answered them, and the bytes of those that are left.
+use mathlib.Core.Path.{_≡_, refl, sym, ap, ap₂, _∙_}
+use mathlib.Core.Logic.{⊎-elim}
 use mathlib.Core.List.{List, [], _∷_, _++_, append-assoc}
 use Prim.Native.Nat.{ℕ, zero, suc, _+_, _^_, min, _<_}
 use native.Mathlib.Omega.{arith}
 use lib.ListN.{length, take}
 use Rattle.command.specs.declared.Draw.the-variants.{Closed}
 use Rattle.command.specs.Command.{Found, unit, waiting, refused, loadBp}
-use Rattle.command.specs.Look.{unlessRefused, lookOf}
+use Rattle.command.specs.Look.{lookOf}
 use Rattle.command.proofs.Ranges.{Ranged}
 use Rattle.queue.proofs.CursorLaws.{reads-pending}
 use Rattle.processor.specs.State.{State}
 use Rattle.processor.specs.Step.{queueOf, lookAt, executed, stepFound, stepOf}
 use Rattle.processor.specs.Step as S
-use Rattle.running.specs.Run.{Ended, goneOn, steps, runLimit, runOf}
+use Rattle.running.specs.Run.{Taken, Ended, goneOn, steps, runLimit, runOf}
 use Rattle.processor.proofs.Passing.{Passes, passes-gate}
 use Rattle.processor.proofs.Bridge.{unit-fits}
-use Rattle.processor.proofs.Valid.{executed-passes}
+use Rattle.processor.proofs.Valid.{executed-passes, runs-found}
+use Rattle.history.specs.Calls.{answered, commandsIn}
 use Rattle.patch.specs.Commands.{bytesOfCommands, bpAfterAll}
 use Rattle.patch.specs.Stream.{IsLoad, AllLoads, Begins}
 use Rattle.patch.proofs.Stream.{look-either}
 use Rattle.patch.proofs.Execution.{after-append}
 use Rattle.patch.proofs.Loads.{load-cp, load-xf, load-draw}
 
--- from s to t, with t's ring and bytes that come later: of the loads left some were executed, and the rest are still to come
-pub record Advance (ring : List ℕ) (s t : State) (later : List ℕ) (left : List (List ℕ)) : Type 0 where
+-- from s to t, with t's ring and bytes that come later: of the loads left some were executed, those of the units answered, and the rest are
+-- still to come
+pub record Advance (ring : List ℕ) (s t : State) (later : List ℕ) (left : List (List ℕ)) (units : List Taken) : Type 0 where
   pub done : List (List ℕ)
   pub still : List (List ℕ)
   pub split : left ≡ done ++ still
+  pub units-are : commandsIn units ≡ done
   pub loads : AllLoads still
   pub bp-is : t .bp ≡ bpAfterAll done (s .bp)
   pub cp-is : t .cp ≡ s .cp
@@ -45,13 +48,14 @@ pub record Ahead (ring : List ℕ) (s : State) (later : List ℕ) (left : List (
 
 -- nothing was executed
 pub advance-none : {ring : List ℕ} {s t : State} {later : List ℕ} {left : List (List ℕ)} → Ahead ring t later left
-    → t .bp ≡ s .bp → t .cp ≡ s .cp → t .xf ≡ s .xf → Advance ring s t later left
+    → t .bp ≡ s .bp → t .cp ≡ s .cp → t .xf ≡ s .xf → Advance ring s t later left []
 unfolding bpAfterAll
 advance-none {left = left} a bp cp xf =
     record {
       done = [];
       still = left;
       split = refl;
+      units-are = refl;
       loads = a .loads;
       bp-is = bp;
       cp-is = cp;
@@ -61,19 +65,26 @@ advance-none {left = left} a bp cp xf =
       queue-is = a .queue-is;
     }
 
-pub advance-same : {ring : List ℕ} {s : State} {later : List ℕ} {left : List (List ℕ)} → Ahead ring s later left → Advance ring s s later left
+pub advance-same : {ring : List ℕ} {s : State} {later : List ℕ} {left : List (List ℕ)} → Ahead ring s later left
+    → Advance ring s s later left []
 advance-same a = advance-none a refl refl refl
 
-pub advance-ahead : {ring : List ℕ} {s t : State} {later : List ℕ} {left : List (List ℕ)} (v : Advance ring s t later left) → Ahead ring t later (v .still)
+pub advance-ahead : {ring : List ℕ} {s t : State} {later : List ℕ} {left : List (List ℕ)} {units : List Taken}
+    (v : Advance ring s t later left units) → Ahead ring t later (v .still)
 advance-ahead v = record { loads = v .loads; closed = v .closed; passes = v .passes; queue-is = v .queue-is }
 
-pub advance-then : {ring ring' : List ℕ} {s t r : State} {later later' : List ℕ} {left : List (List ℕ)} (v : Advance ring s t later left)
-    → Advance ring' t r later' (v .still) → Advance ring' s r later' left
-advance-then {s = s} v u =
+commands-append : (us vs : List Taken) → commandsIn (us ++ vs) ≡ commandsIn us ++ commandsIn vs
+commands-append [] vs = refl
+commands-append (u ∷ us) vs = ap (λ (x : List (List ℕ)). u .command ∷ x) (commands-append us vs)
+
+pub advance-then : {ring ring' : List ℕ} {s t r : State} {later later' : List ℕ} {left : List (List ℕ)} {us vs : List Taken}
+    (v : Advance ring s t later left us) → Advance ring' t r later' (v .still) vs → Advance ring' s r later' left (us ++ vs)
+advance-then {s = s} {us = us} {vs = vs} v u =
     record {
       done = v .done ++ u .done;
       still = u .still;
       split = v .split ∙ ap (λ (x : List (List ℕ)). v .done ++ x) (u .split) ∙ sym (append-assoc (v .done) (u .done) (u .still));
+      units-are = commands-append us vs ∙ ap₂ _++_ (v .units-are) (u .units-are);
       loads = u .loads;
       bp-is = u .bp-is ∙ ap (bpAfterAll (u .done)) (v .bp-is) ∙ sym (after-append (v .done) (u .done) (s .bp));
       cp-is = u .cp-is ∙ v .cp-is;
@@ -96,7 +107,7 @@ module _ {ring : List ℕ} {s : State} {later : List ℕ} {left : List (List ℕ
   found-is e = rw (a .closed) e
 
   -- a whole load at the front is executed
-  advance-unit : Begins q later (s .cp) left → Advance ring s (S.after ring s (lookAt ring s)) later left
+  advance-unit : Begins q later (s .cp) left → Advance ring s (S.after ring s (lookAt ring s)) later left (answered (lookAt ring s))
   unfolding executed bpAfterAll
   advance-unit b =
       let c : List ℕ = b .command in
@@ -109,6 +120,7 @@ module _ {ring : List ℕ} {s : State} {later : List ℕ} {left : List (List ℕ
         done = c ∷ [];
         still = b .others;
         split = b .first-is;
+        units-are = refl;
         loads = b .loads;
         bp-is = refl;
         cp-is = rw (l .load-is) (load-cp (l .register) (l .number) (s .cp));
@@ -118,22 +130,21 @@ module _ {ring : List ℕ} {s : State} {later : List ℕ} {left : List (List ℕ
         queue-is = ap (λ (x : List ℕ). x ++ later) (reads-pending (s .fifo) ring (a .passes .ready) .drop-is 5 (fits .1 .0)) ∙ b .rest-is;
       })
 
-  advance-look : Advance ring s (S.after ring s (lookAt ring s)) later left
+  advance-look : Advance ring s (S.after ring s (lookAt ring s)) later left (answered (lookAt ring s))
   advance-look =
       ⊎-elim advance-unit (λ h. rw (found-is (h .1)) (advance-same a)) (look-either q later (s .cp) left (a .loads) (a .queue-is))
 
-  -- past the gate a step finds what the queue begins with
-  step-is : stepFound ring s ≡ lookAt ring s
-  unfolding stepFound
-  step-is = ap (λ (r : ℕ). unlessRefused r (lookAt ring s)) (passes-gate s (length ring) (a .passes))
+  -- past the gate a taking finds what the queue begins with
+  found-first : stepFound ring s ≡ lookAt ring s
+  found-first = runs-found ring s (passes-gate s (length ring) (a .passes))
 
-  pub advance-step : Advance ring s (stepOf ring s) later left
+  pub advance-take : Advance ring s (stepOf ring s) later left (answered (stepFound ring s))
   unfolding stepOf
-  advance-step = rw step-is advance-look
+  advance-take = rw found-first advance-look
 
--- a step at a whole load executes it, and what is left of the queue is the others' bytes
+-- a taking at a whole load executes it, and what is left of the queue is the others' bytes
 pub record Whole (ring : List ℕ) (s : State) (later : List ℕ) (left others : List (List ℕ)) : Type 0 where
-  pub advance : Advance ring s (stepOf ring s) later left
+  pub advance : Advance ring s (stepOf ring s) later left (answered (stepFound ring s))
   pub rest : queueOf ring (stepOf ring s) ++ later ≡ bytesOfCommands others
 
 pub advance-whole : {ring : List ℕ} {s : State} {later : List ℕ} {left : List (List ℕ)} (a : Ahead ring s later left)
@@ -141,10 +152,10 @@ pub advance-whole : {ring : List ℕ} {s : State} {later : List ℕ} {left : Lis
 unfolding stepOf executed
 advance-whole {ring} {s} {later} a b =
     let f : lookAt ring s ≡ unit (b .command) 0 5 = found-is a (b .look-is) in
-    let e : stepOf ring s ≡ executed ring s (b .command) 5 = ap (S.after ring s) (step-is a ∙ f) in
+    let e : stepOf ring s ≡ executed ring s (b .command) 5 = ap (S.after ring s) (found-first a ∙ f) in
     let fits = unit-fits ring s (a .passes .ready) (b .command) 0 5 (sym f) in
     record {
-      advance = advance-step a;
+      advance = advance-take a;
       rest =
           ap (λ (x : State). queueOf ring x ++ later) e
           ∙ ap (λ (x : List ℕ). x ++ later) (reads-pending (s .fifo) ring (a .passes .ready) .drop-is 5 (fits .1 .0))
@@ -152,21 +163,22 @@ advance-whole {ring} {s} {later} a b =
     }
 
 -- ---- a run
-gone-state : (found : Found) (s : State) (e : Ended) → (goneOn found s e .state ≡ e .state) ⊎ (goneOn found s e .state ≡ s)
-gone-state (unit c m n) s e = inl refl
-gone-state (waiting k) s e = inr refl
-gone-state (refused r) s e = inr refl
+gone-advance : {ring : List ℕ} {s : State} {later : List ℕ} {left : List (List ℕ)} (found : Found) (e : Ended)
+    → Advance ring s (e .state) later left (answered found ++ e .units) → Advance ring s s later left []
+    → Advance ring s (goneOn found s e .state) later left (goneOn found s e .units)
+gone-advance (unit c m n) e on here = on
+gone-advance (waiting k) e on here = here
+gone-advance (refused r) e on here = here
 
 pub advance-steps : (n : ℕ) {ring : List ℕ} {s : State} {later : List ℕ} {left : List (List ℕ)} → Ahead ring s later left
-    → Advance ring s (steps ring n s .state) later left
+    → Advance ring s (steps ring n s .state) later left (steps ring n s .units)
 unfolding steps
 advance-steps zero a = advance-same a
 advance-steps (suc n) {ring} {s} a =
-    let v = advance-step a in
-    let rest = advance-steps n (advance-ahead v) in
-    ⊎-elim (λ e. rw e (advance-then v rest)) (λ e. rw e (advance-same a)) (gone-state (stepFound ring s) s (steps ring n (stepOf ring s)))
+    let v = advance-take a in
+    gone-advance (stepFound ring s) (steps ring n (stepOf ring s)) (advance-then v (advance-steps n (advance-ahead v))) (advance-same a)
 
 pub advance-run : (limit : ℕ) {ring : List ℕ} {s : State} {later : List ℕ} {left : List (List ℕ)} → Ahead ring s later left
-    → Advance ring s (runOf ring limit s .state) later left
+    → Advance ring s (runOf ring limit s .state) later left (runOf ring limit s .units)
 unfolding runOf
 advance-run limit {ring} {s} a = rw (passes-gate s (length ring) (a .passes)) (advance-steps (min limit runLimit) a)

@@ -9,5 +9,6 @@ use Rattle.sequence.specs.Promise.{Start}
 use Rattle.sequence.specs.Start.{firstWorld}
 
 pub first-start : Start firstWorld
-unfolding firstWorld freshMachine gateBy stateFits registersFit controlFits cpFits bpFits drawFits allBelow readyBy validBy sizeLimit countOf pending upTo
+unfolding firstWorld freshMachine gateBy stateFits registersFit controlFits cpFits bpFits drawFits allBelow readyBy validBy sizeLimit
+    countOf pending upTo
 first-start = record { passes = refl; empty = refl; closed = refl; size = refl; unmasked = refl }

@@ -4,7 +4,7 @@ use Rattle.patch.proofs.Execution.{merged-all-accepted}
 use Rattle.patch.specs.Commands.{commandsOfAll}
 use Rattle.sequence.specs.Promise.{PatchesInRow}
 use Rattle.sequence.specs.Exist.{callsOf}
-use Rattle.sequence.proofs.Promise.{promise, either-order}
+use Rattle.sequence.proofs.Promise.{promise, units-answered, either-order}
 use Rattle.sequence.proofs.Exist.{calls-exist}
 use Rattle.sequence.proofs.Begins.{first-start}
 
@@ -12,6 +12,7 @@ pub patches-in-row : PatchesInRow
 patches-in-row =
     record {
       promised = promise;
+      units-are = units-answered;
       either-way = merged-assoc;
       stays-accepted = merged-accepted;
       whole-accepted = merged-all-accepted;

@@ -12,13 +12,13 @@ use Rattle.queue.specs.Feeding.{accepted, bytesAccepted}
 use Rattle.queue.proofs.FeedLaws.{fits-accepted}
 use Rattle.queue.proofs.Pending.{length-pending}
 use Rattle.processor.proofs.Passing.{Passes, gate-passes, passes-gate}
-use Rattle.history.specs.Calls.{World, feed, step, queue, after, fed, afterAll, fedAll}
-use Rattle.history.proofs.Fed.{feed-longer}
+use Rattle.history.specs.Calls.{World, feed, take, queue, after, fed, afterAll, fedAll, AllListed}
+use Rattle.history.proofs.Fed.{feed-longer, runs-fed}
 use Rattle.patch.specs.Patch.{Patch, AllAccepted}
 use Rattle.patch.specs.Commands.{commandsOfAll, bytesOfCommands}
 use Rattle.patch.specs.Stream.{IsLoad, AllLoads, Begins}
 use Rattle.patch.proofs.Stream.{five-bytes, look-whole, patches-loads, patches-bytes}
-use Rattle.sequence.specs.Promise.{Start, AllListed, Delivers}
+use Rattle.sequence.specs.Promise.{Start, Delivers}
 use Rattle.sequence.specs.Exist.{callsOf}
 use Rattle.sequence.proofs.Advance.{Ahead, advance-whole}
 
@@ -41,7 +41,7 @@ module _ (w : World) (i : Idle w) (c : List ℕ) (l : IsLoad c) where
   w1 = after w (feed bytes)
 
   abbrev w2 : World
-  w2 = after w1 step
+  w2 = after w1 take
 
   taken : accepted (w .state .fifo) (w .ring) bytes ≡ true
   taken =
@@ -64,7 +64,7 @@ module _ (w : World) (i : Idle w) (c : List ℕ) (l : IsLoad c) where
       record {
         loads = (l, tt);
         closed = i .closed;
-        passes = gate-passes (w1 .state) (length (w1 .ring)) (feed-longer w bytes .gate-is ∙ passes-gate (w .state) (length (w .ring)) (i .passes));
+        passes = gate-passes (w1 .state) (length (w1 .ring)) (runs-fed w bytes (passes-gate (w .state) (length (w .ring)) (i .passes)));
         queue-is = ap (λ (x : List ℕ). x ++ []) queue-one;
       }
 
@@ -72,7 +72,8 @@ module _ (w : World) (i : Idle w) (c : List ℕ) (l : IsLoad c) where
   unfolding bytesOfCommands
   idle-again =
       let long : 5 ≤ length (queue w1) = rw queue-one (omega (arith, five-bytes c l)) in
-      let b : Begins (queue w1) [] (w1 .state .cp) (c ∷ []) = look-whole (queue w1) [] (w1 .state .cp) (c ∷ []) (l, tt) (one-ahead .queue-is) long in
+      let b : Begins (queue w1) [] (w1 .state .cp) (c ∷ []) =
+      look-whole (queue w1) [] (w1 .state .cp) (c ∷ []) (l, tt) (one-ahead .queue-is) long in
       let none : b .others ≡ [] = cc (b .first-is) in
       let v = advance-whole one-ahead b in
       record {
@@ -81,7 +82,7 @@ module _ (w : World) (i : Idle w) (c : List ℕ) (l : IsLoad c) where
         passes = v .advance .passes;
       }
 
--- commands fed and stepped one after the other
+-- commands fed and taken one after the other
 record Delivered (w : World) (cs : List (List ℕ)) : Type 0 where
   fed-is : fedAll w (callsOf cs) ≡ bytesOfCommands cs
   emptied : queue (afterAll w (callsOf cs)) ≡ []
@@ -92,7 +93,9 @@ delivered [] w i h = record { fed-is = refl; emptied = i .empty }
 delivered (c ∷ cs) w i h =
     let r : Delivered (w2 w i c (h .0)) cs = delivered cs (w2 w i c (h .0)) (idle-again w i c (h .0)) (h .1) in
     record {
-      fed-is = ap (λ (x : List ℕ). x ++ fedAll (w2 w i c (h .0)) (callsOf cs)) (fed-all w i c (h .0)) ∙ ap (λ (x : List ℕ). commandBytes c [] ++ x) (r .fed-is);
+      fed-is =
+          ap (λ (x : List ℕ). x ++ fedAll (w2 w i c (h .0)) (callsOf cs)) (fed-all w i c (h .0))
+          ∙ ap (λ (x : List ℕ). commandBytes c [] ++ x) (r .fed-is);
       emptied = r .emptied;
     }
 

@@ -13,20 +13,23 @@ use Rattle.fifo.specs.Registers.{stored, writable, written}
 use Rattle.processor.specs.Gate.{bpFits}
 use Rattle.processor.proofs.Below.{below-at}
 use Rattle.processor.proofs.Passing.{Passes, gate-passes, passes-gate}
-use Rattle.history.specs.Calls.{World, Call, feed, step, run, write, read, queue, after, fed, afterAll, fedAll}
-use Rattle.history.proofs.Fed.{feed-longer}
+use Rattle.running.specs.Run.{Taken}
+use Rattle.history.specs.Calls.{World, Call, feed, take, look, run, write, read, queue, after, fed, unitsOf, afterAll, fedAll, unitsAll}
+use Rattle.history.specs.Calls.{commandsIn, Listed, AllListed}
+use Rattle.history.proofs.Fed.{feed-longer, runs-fed}
 use Rattle.patch.specs.Patch.{Patch, mergedAll}
 use Rattle.patch.specs.Registers.{Open, Agree}
 use Rattle.patch.specs.Commands.{commandsOfAll, bytesOfCommands, bpAfterAll}
 use Rattle.patch.specs.Stream.{AllLoads}
 use Rattle.patch.proofs.Stream.{five-bytes, patches-loads, patches-bytes}
 use Rattle.patch.proofs.Execution.{executed-all, merged-swap}
-use Rattle.sequence.specs.Promise.{Start, Listed, AllListed, Delivers, SameRegisters, RulesGive}
-use Rattle.sequence.proofs.Advance.{Advance, Ahead, advance-none, advance-same, advance-ahead, advance-then, advance-step, advance-run}
+use Rattle.sequence.specs.Promise.{Start, Delivers, SameRegisters, RulesGive}
+use Rattle.sequence.proofs.Advance.{Advance, Ahead, advance-none, advance-same, advance-ahead, advance-then}
+use Rattle.sequence.proofs.Advance.{advance-take, advance-run}
 
 -- from one world to another
-abbrev Moves : World → World → List ℕ → List (List ℕ) → Type 0
-Moves w v later left = Advance (v .ring) (w .state) (v .state) later left
+abbrev Moves : World → World → List ℕ → List (List ℕ) → List Taken → Type 0
+Moves w v later left units = Advance (v .ring) (w .state) (v .state) later left units
 
 -- a clear changes nothing
 clear-kept : (f : Fifo) (value : ℕ) → written f 4 value ≡ f
@@ -35,10 +38,10 @@ clear-kept f value = cond-both (λ (g : Fifo). g ≡ f) (writable 4) (λ _. refl
 
 -- one call
 call-moves : (w : World) (c : Call) (later : List ℕ) (left : List (List ℕ)) → Listed c → Ahead (w .ring) (w .state) (fed w c ++ later) left
-    → Moves w (after w c) later left
+    → Moves w (after w c) later left (unitsOf w c)
 call-moves w (feed bytes) later left h a =
     let f = feed-longer w bytes in
-    let g = f .gate-is ∙ passes-gate (w .state) (length (w .ring)) (a .passes) in
+    let g = runs-fed w bytes (passes-gate (w .state) (length (w .ring)) (a .passes)) in
     let b : Ahead (after w (feed bytes) .ring) (after w (feed bytes) .state) later left =
     record {
       loads = a .loads;
@@ -48,18 +51,19 @@ call-moves w (feed bytes) later left h a =
           ap (λ (x : List ℕ). x ++ later) (f .queue-is) ∙ append-assoc (queue w) (fed w (feed bytes)) later ∙ a .queue-is;
     } in
     advance-none b refl refl refl
-call-moves w step later left h a = advance-step a
+call-moves w take later left h a = advance-take a
+call-moves w look later left h a = advance-same a
 call-moves w (run limit) later left h a = advance-run limit a
 call-moves w (write offset value) later left h a = rw (h, clear-kept (w .state .fifo) value) (advance-same a)
 call-moves w (read offset) later left h a = absurd h
 
 -- a list of calls
 all-moves : (cs : List Call) (w : World) (left : List (List ℕ)) → AllListed cs → Ahead (w .ring) (w .state) (fedAll w cs) left
-    → Moves w (afterAll w cs) [] left
-unfolding afterAll fedAll
+    → Moves w (afterAll w cs) [] left (unitsAll w cs)
+unfolding afterAll fedAll unitsAll
 all-moves [] w left h a = advance-same a
 all-moves (c ∷ cs) w left h a =
-    let m : Moves w (after w c) (fedAll (after w c) cs) left = call-moves w c (fedAll (after w c) cs) left (h .0) a in
+    let m : Moves w (after w c) (fedAll (after w c) cs) left (unitsOf w c) = call-moves w c (fedAll (after w c) cs) left (h .0) a in
     advance-then m (all-moves cs (after w c) (m .still) (h .1) (advance-ahead m))
 
 -- loads without a byte are none
@@ -91,18 +95,32 @@ module _ (w : World) (cs : List Call) (ps : List Patch) (st : Start w) (d : Deli
         queue-is = ap (λ (x : List ℕ). x ++ fedAll w cs) (st .empty) ∙ d .fed-is ∙ patches-bytes ps;
       }
 
+  moves : Moves w (afterAll w cs) [] left (unitsAll w cs)
+  moves = all-moves cs w left (d .listed) all-ahead
+
+  -- with the ring empty every load was executed
+  all-done : left ≡ moves .done
+  all-done =
+      let still = moves .still in
+      let none : still ≡ [] =
+      no-bytes still (moves .loads) (sym (moves .queue-is) ∙ append-nil (queue (afterAll w cs)) ∙ d .emptied) in
+      moves .split ∙ ap (λ (x : List (List ℕ)). moves .done ++ x) none ∙ append-nil (moves .done)
+
   -- "After the list the BP, CP and XF registers are those that the rules give for one merged sheet, a later sheet's bits winning."
   pub promise : RulesGive w (mergedAll ps) (afterAll w cs)
   unfolding left
   promise =
-      let m : Moves w (afterAll w cs) [] left = all-moves cs w left (d .listed) all-ahead in
-      let none : m .still ≡ [] = no-bytes (m .still) (m .loads) (sym (m .queue-is) ∙ append-nil (queue (afterAll w cs)) ∙ d .emptied) in
-      let all : left ≡ m .done = m .split ∙ ap (λ (x : List (List ℕ)). m .done ++ x) none ∙ append-nil (m .done) in
       record {
-        bp-is = m .bp-is ∙ ap (λ (x : List (List ℕ)). bpAfterAll x (w .state .bp)) (sym all) ∙ executed-all ps (w .state .bp) (d .accepted) (start-open w st);
-        cp-is = m .cp-is;
-        xf-is = m .xf-is;
+        bp-is =
+            moves .bp-is ∙ ap (λ (x : List (List ℕ)). bpAfterAll x (w .state .bp)) (sym all-done)
+            ∙ executed-all ps (w .state .bp) (d .accepted) (start-open w st);
+        cp-is = moves .cp-is;
+        xf-is = moves .xf-is;
       }
+
+  pub units-answered : commandsIn (unitsAll w cs) ≡ commandsOfAll ps
+  unfolding left
+  units-answered = moves .units-are ∙ sym all-done
 
 -- "From any one such start, A then B leaves the same BP, CP and XF registers as B then A exactly when every bit that both name has the same
 -- value in both": for every two lists of calls from it

@@ -25,8 +25,8 @@ fn tell(state: &[u32; 327], unit: [u32; 6], tally: Tally) -> bool {
     true
 }
 
-// One unit.
-fn step(
+// Takes the next unit and tells it.
+fn take_unit(
     state: &mut [u32; 327],
     ring: &[u8],
     xf: &mut [u32],
@@ -35,7 +35,7 @@ fn step(
 ) -> Tally {
     let mut unit = [0u32; 6];
     let mut lacking: u32 = 0;
-    let number = duckhammock::duckhammock_step(state, ring, xf, vertex, &mut unit, &mut lacking);
+    let number = duckhammock::duckhammock_take(state, ring, xf, vertex, &mut unit, &mut lacking);
     if number != 0 {
         return tally::stop(tally, number, lacking);
     }
@@ -54,10 +54,10 @@ fn take_units(
     vertex: &mut [u8],
     tally: Tally,
 ) -> Tally {
-    let mut last = step(state, ring, xf, vertex, tally);
+    let mut last = take_unit(state, ring, xf, vertex, tally);
     let mut turns: u32 = 65535;
     while turns > 0 && last.goes_on && last.number == 0 {
-        last = step(state, ring, xf, vertex, last);
+        last = take_unit(state, ring, xf, vertex, last);
         turns -= 1;
     }
     last

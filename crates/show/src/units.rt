@@ -1,4 +1,4 @@
-// A line for each unit. The six numbers of a unit are those of `duckhammock::duckhammock_step`: kind, a, b, c, d and bytes.
+// A line for each unit. The six numbers of a unit are those of `duckhammock::duckhammock_take`: kind, a, b, c, d and bytes.
 use crate::text;
 use crate::text::put;
 use crate::text::put_count;

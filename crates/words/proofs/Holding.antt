@@ -1,4 +1,4 @@
--- A state that 327 words say has its arrays' lengths and a draw's count of 16 bits, and so has the state after every step and run: words
+-- A state that 327 words say has its arrays' lengths and a draw's count of 16 bits, and so has the state after every taking and run: words
 -- say them whole.
 use mathlib.Core.Path.{_≡_, refl, ap, _∙_}
 use mathlib.Core.Bool.{_&&_}
@@ -52,7 +52,7 @@ left-lt flag left =
     (λ e. ltb-true left (2 ^ 16) (and-right (eqb flag 1) (ltb left (2 ^ 16)) e))
     (λ _. lit< tt)
 
--- ---- the state that words say, and the state after a step
+-- ---- the state that words say, and the state after a taking
 
 holds-words : (l xf vertex : List ℕ) → length l ≡ 327 → Holds (stateAt l xf vertex)
 unfolding drawOf
@@ -112,7 +112,7 @@ fresh-holds xf vertex = record { cp-length = refl; bp-length = refl; of-draw = t
 pub words-promises : WordsPromises
 words-promises = record {
   of-fresh = λ xf vertex. read-back _ (fresh-holds xf vertex);
-  of-step = λ ring l xf vertex o n. read-back _ (step-holds ring o _ (holds-words l xf vertex n));
+  of-take = λ ring l xf vertex o n. read-back _ (step-holds ring o _ (holds-words l xf vertex n));
   of-run = λ ring l xf vertex limit o n. read-back _ (run-keeps ring Holds (step-holds ring o) limit _ (holds-words l xf vertex n));
   of-fifo = λ l xf vertex f. stored-is l f xf vertex;
 }

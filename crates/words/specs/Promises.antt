@@ -1,4 +1,4 @@
--- Words lose nothing: the words of the fresh state and of the state after a step or a run say that state whole, and words with another
+-- Words lose nothing: the words of the fresh state and of the state after a taking or a run say that state whole, and words with another
 -- fifo stored say the state with that fifo. What calls leave: duckhammock/specs/Promises.
 use mathlib.Core.Path.{_≡_}
 use mathlib.Core.List.{List}
@@ -27,8 +27,8 @@ stateWith words xf vertex f = stateOf f (cpOf words) (bpOf words) (drawOf words)
 pub record WordsPromises : Type 0 where
   -- the fresh state's words say it
   pub of-fresh : (xf vertex : List ℕ) → stateAt freshWords xf vertex ≡ freshAt xf vertex
-  -- so do those of the state after a step; 327 words and bytes of the ring are the parameters' types
-  pub of-step : (ring words xf vertex : List ℕ) → Octets ring → length words ≡ 327 → SaidWhole (stepOf ring (stateAt words xf vertex))
+  -- so do those of the state after a taking; 327 words and bytes of the ring are the parameters' types
+  pub of-take : (ring words xf vertex : List ℕ) → Octets ring → length words ≡ 327 → SaidWhole (stepOf ring (stateAt words xf vertex))
   -- and after a run
   pub of-run : (ring words xf vertex : List ℕ) (limit : ℕ) → Octets ring → length words ≡ 327
       → SaidWhole (runOf ring limit (stateAt words xf vertex) .state)

@@ -210,6 +210,9 @@ static u32 measure(const u32 *s, u32 format) {
     return likely(n < BAD) ? n : BAD + 10;
 }
 
+/* A look and a take read the unit by the same code. `takes` is a constant wherever this is
+ * inlined; where it is 0, nothing is stored but what is told of the unit. */
+
 /* What a unit came to: its bytes, or WAIT and the bytes lacking, or REFUSED and a number. */
 #define WAIT 0x10000u
 #define REFUSED 0x20000u
@@ -226,30 +229,32 @@ INLINE u32 told(u32 *unit, u32 kind, u32 a, u32 b, u32 c, u32 d, u32 bytes) {
 #define NEED(n) do { if (unlikely(have < (n))) return WAIT + (n) - have; } while (0)
 
 /* A load through the mask, which the next load finds whole again. */
-INLINE u32 load_bp(u32 *bp, const u8 *p, u32 *unit) {
-    u32 v = number32(p + 1), r = v >> 24, mask = bp[BP_MASK];
-    u32 stored = (bp[r] & ~mask) | (v & mask);
-    bp[r] = stored;
-    bp[BP_MASK] = r == BP_MASK ? stored : 0xFFFFFF;
+INLINE u32 load_bp(u32 *bp, const u8 *p, u32 *unit, int takes) {
+    u32 v = number32(p + 1), r = v >> 24;
+    if (takes) {
+        u32 mask = bp[BP_MASK], stored = (bp[r] & ~mask) | (v & mask);
+        bp[r] = stored;
+        bp[BP_MASK] = r == BP_MASK ? stored : 0xFFFFFF;
+    }
     return told(unit, 0x61, r, v & 0xFFFFFF, 0, 0, 5);
 }
 
-INLINE u32 load_cp(u32 *s, const u8 *p, u32 have, u32 *unit) {
+INLINE u32 load_cp(u32 *s, const u8 *p, u32 have, u32 *unit, int takes) {
     if (unlikely(have < 2)) return WAIT + 6 - have;
     u32 address = p[1], place = CP_PLACES[address];
     if (unlikely(place == UNLISTED)) return REFUSED + 7;
     NEED(6);
     u32 number = number32(p + 2);
-    if (likely(place < NOWHERE)) s[CP + place] = number & CP_MASKS[address >> 4];
+    if (takes && likely(place < NOWHERE)) s[CP + place] = number & CP_MASKS[address >> 4];
     return told(unit, 0x08, address, number, 0, 0, 6);
 }
 
-INLINE u32 load_xf(const u8 *p, u32 have, u32 *xf, u32 *unit) {
+INLINE u32 load_xf(const u8 *p, u32 have, u32 *xf, u32 *unit, int takes) {
     NEED(5);
     u32 words = (p[2] & 15) + 1, address = number16(p + 3), bytes = 5 + 4 * words;
     if (unlikely(address + words > XF_WORDS)) return REFUSED + 8;
     NEED(bytes);
-    copy_words(xf + address, p + 5, words);
+    if (takes) copy_words(xf + address, p + 5, words);
     return told(unit, 0x10, words, address, 0, 0, bytes);
 }
 
@@ -261,12 +266,12 @@ INLINE u32 load_indexed(const u32 *s, const u8 *p, u32 have, u32 *unit) {
 }
 
 /* A draw's head; it opens the draw, but one of no vertices. */
-INLINE u32 open_draw(u32 *s, const u8 *p, u32 have, u32 *unit) {
+INLINE u32 open_draw(u32 *s, const u8 *p, u32 have, u32 *unit, int takes) {
     u32 primitive = p[0] >> 3 & 7, format = p[0] & 7, size = measure(s, format);
     if (unlikely(size >= BAD)) return REFUSED + (size - BAD);
     NEED(3);
     u32 vertices = number16(p + 1);
-    if (vertices) {
+    if (takes && vertices) {
         s[OPEN] = 1;
         s[PRIMITIVE] = primitive;
         s[FORMAT] = format;
@@ -276,16 +281,16 @@ INLINE u32 open_draw(u32 *s, const u8 *p, u32 have, u32 *unit) {
 }
 
 /* One unit while no draw is open. p holds the pending bytes, or as many as any unit has. */
-INLINE u32 one_unit(u32 *s, const u8 *p, u32 have, u32 *xf, u32 *unit) {
+INLINE u32 one_unit(u32 *s, const u8 *p, u32 have, u32 *xf, u32 *unit, int takes) {
     NEED(1);
     u32 opcode = p[0];
     switch (opcode) {
     case 0x00: case 0x44: case 0x48:
         return told(unit, opcode, 0, 0, 0, 0, 1);
     case 0x08:
-        return load_cp(s, p, have, unit);
+        return load_cp(s, p, have, unit, takes);
     case 0x10:
-        return load_xf(p, have, xf, unit);
+        return load_xf(p, have, xf, unit, takes);
     case 0x20: case 0x28: case 0x30: case 0x38:
         return load_indexed(s, p, have, unit);
     case 0x40:
@@ -293,26 +298,28 @@ INLINE u32 one_unit(u32 *s, const u8 *p, u32 have, u32 *xf, u32 *unit) {
         return told(unit, 0x40, number32(p + 1), number32(p + 5), 0, 0, 9);
     case 0x61:
         NEED(5);
-        return load_bp(s + BP, p, unit);
+        return load_bp(s + BP, p, unit, takes);
     default:
         if (unlikely((opcode & 0xC0) != 0x80)) return REFUSED + 6;
-        return open_draw(s, p, have, unit);
+        return open_draw(s, p, have, unit, takes);
     }
 }
 
 /* The next vertex of the open draw. */
-INLINE u32 one_vertex(u32 *s, const u8 *p, u32 have, u8 *vertex, u32 *unit) {
+INLINE u32 one_vertex(u32 *s, const u8 *p, u32 have, u8 *vertex, u32 *unit, int takes) {
     u32 size = measure(s, s[FORMAT]);
     if (unlikely(size >= BAD)) return REFUSED + (size - BAD);
     NEED(size);
-    copy_vertex(vertex, p, size);
-    if (--s[LEFT] == 0) close_draw(s);
+    if (takes) {
+        copy_vertex(vertex, p, size);
+        if (--s[LEFT] == 0) close_draw(s);
+    }
     return told(unit, 0x01, 0, 0, 0, 0, size);
 }
 
-u32 hand_step(u32 *restrict s, const u8 *restrict ring, size_t ring_len, u32 *restrict xf,
-              size_t xf_len, u8 *restrict vertex, size_t vertex_len, u32 *restrict unit,
-              u32 *restrict lacking) {
+INLINE u32 next_unit(u32 *restrict s, const u8 *restrict ring, size_t ring_len,
+                     u32 *restrict xf, size_t xf_len, u8 *restrict vertex, size_t vertex_len,
+                     u32 *restrict unit, u32 *restrict lacking, int takes) {
     u32 r = gate(s, ring_len, xf_len, vertex_len);
     if (unlikely(r)) return r;
     u32 size = (u32)ring_len, at = s[READ] - s[START], have = count_of(s);
@@ -322,16 +329,32 @@ u32 hand_step(u32 *restrict s, const u8 *restrict ring, size_t ring_len, u32 *re
         gather(gathered, ring, size, at, have < LONGEST ? have : LONGEST);
         p = gathered;
     }
-    r = s[OPEN] ? one_vertex(s, p, have, vertex, unit) : one_unit(s, p, have, xf, unit);
+    r = s[OPEN] ? one_vertex(s, p, have, vertex, unit, takes)
+                : one_unit(s, p, have, xf, unit, takes);
     if (likely(r < WAIT)) {
-        at += r;
-        s[READ] = s[START] + (at < size ? at : at - size);
-        if (!s[OPEN]) close_draw(s);
+        if (takes) {
+            at += r;
+            s[READ] = s[START] + (at < size ? at : at - size);
+            if (!s[OPEN]) close_draw(s);
+        }
         return 0;
     }
     if (r >= REFUSED) return r - REFUSED;
     *lacking = r - WAIT;
     return WAITING;
+}
+
+u32 hand_look(const u32 *restrict s, const u8 *restrict ring, size_t ring_len,
+              const u32 *restrict xf, size_t xf_len, const u8 *restrict vertex,
+              size_t vertex_len, u32 *restrict unit, u32 *restrict lacking) {
+    return next_unit((u32 *)s, ring, ring_len, (u32 *)xf, xf_len, (u8 *)vertex, vertex_len,
+                     unit, lacking, 0);
+}
+
+u32 hand_take(u32 *restrict s, const u8 *restrict ring, size_t ring_len, u32 *restrict xf,
+              size_t xf_len, u8 *restrict vertex, size_t vertex_len, u32 *restrict unit,
+              u32 *restrict lacking) {
+    return next_unit(s, ring, ring_len, xf, xf_len, vertex, vertex_len, unit, lacking, 1);
 }
 
 /* ---- A run ---- */
@@ -514,7 +537,7 @@ INLINE u32 run_around(Run *r) {
     size_t straight = (size_t)(r->end - r->p), have = straight + r->wrapped;
     gather(gathered, r->ring, (u32)r->ring_len, (u32)(r->p - r->ring),
            (u32)(have < LONGEST ? have : LONGEST));
-    u32 bytes = one_unit(r->s, gathered, (u32)have, r->xf, unit);
+    u32 bytes = one_unit(r->s, gathered, (u32)have, r->xf, unit, 1);
     if (bytes >= REFUSED) return bytes - REFUSED;
     if (bytes >= WAIT) { r->lacking = bytes - WAIT; return WAITING; }
     r->sizes = 0;

@@ -1,7 +1,7 @@
 //! The implementations behind one trait, each with the memory it is lent.
 
 use model::words::{command_words, state_words, StateWords, UnitWords, STATE_WORDS, WAITING};
-use model::{Answer, End, Memory, Refusal, State, XF_WORDS};
+use model::{Answer, End, Memory, Refusal, State, View, XF_WORDS};
 
 pub const RING: usize = 65_536;
 const VERTEX: usize = 129;
@@ -29,17 +29,18 @@ impl Lent {
 /// An implementation at work. Answers are the library's numbers: 0, 255 for
 /// waiting, or a refusal's.
 pub trait Machine {
-    /// A step's answer in the implementation's own form.
-    type Step;
+    /// The answer of a look or a take in the implementation's own form.
+    type Told;
 
     fn fresh() -> Self;
     fn read_register(&self, offset: u16) -> [u32; 2];
     fn write_register(&mut self, offset: u16, value: u16) -> u32;
     fn feed(&mut self, bytes: &[u8]) -> u32;
-    fn step(&mut self) -> Self::Step;
+    fn look(&self) -> Self::Told;
+    fn take(&mut self) -> Self::Told;
     /// The answer number, the unit's six words and the bytes lacking, 0 where
-    /// they are not told, for a step that took so many bytes off the ring.
-    fn step_words(step: &Self::Step, bytes: u32) -> [u32; 8];
+    /// they are not told.
+    fn told_words(told: &Self::Told) -> [u32; 8];
     /// The answer number, units done, bytes lacking.
     fn run(&mut self, limit: u32) -> [u32; 3];
     /// Keeps the state for `reset`.
@@ -63,7 +64,7 @@ macro_rules! over_words {
 
         impl Machine for $machine {
             /// The answer number, the unit, the bytes lacking; 0 where they are not told.
-            type Step = (u32, UnitWords, u32);
+            type Told = (u32, UnitWords, u32);
 
             fn fresh() -> $machine {
                 let mut state = [0; STATE_WORDS];
@@ -89,16 +90,24 @@ macro_rules! over_words {
                 $calls::feed(&mut self.state, &mut self.lent.ring, bytes)
             }
 
-            fn step(&mut self) -> (u32, UnitWords, u32) {
+            fn look(&self) -> (u32, UnitWords, u32) {
+                let Lent { ring, xf, vertex } = &*self.lent;
+                let mut unit = [0; 6];
+                let mut lacking = 0;
+                let number = $calls::look(&self.state, ring, xf, vertex, &mut unit, &mut lacking);
+                (number, unit, lacking)
+            }
+
+            fn take(&mut self) -> (u32, UnitWords, u32) {
                 let Lent { ring, xf, vertex } = &mut *self.lent;
                 let mut unit = [0; 6];
                 let mut lacking = 0;
                 let number =
-                    $calls::step(&mut self.state, ring, xf, vertex, &mut unit, &mut lacking);
+                    $calls::take(&mut self.state, ring, xf, vertex, &mut unit, &mut lacking);
                 (number, unit, lacking)
             }
 
-            fn step_words(&(number, unit, lacking): &(u32, UnitWords, u32), _: u32) -> [u32; 8] {
+            fn told_words(&(number, unit, lacking): &(u32, UnitWords, u32)) -> [u32; 8] {
                 let [kind, a, b, c, d, bytes] = unit;
                 [number, kind, a, b, c, d, bytes, lacking]
             }
@@ -168,7 +177,7 @@ fn number<T>(answer: &Result<T, Refusal>) -> u32 {
 }
 
 impl Machine for Plain {
-    type Step = Answer;
+    type Told = Answer;
 
     fn fresh() -> Plain {
         Plain {
@@ -191,18 +200,24 @@ impl Machine for Plain {
         number(&self.state.feed(&mut self.lent.ring, bytes))
     }
 
-    fn step(&mut self) -> Answer {
-        self.state.step(&mut memory(&mut self.lent))
+    fn look(&self) -> Answer {
+        let Lent { ring, xf, vertex } = &*self.lent;
+        self.state.look(&View { ring, xf, vertex })
     }
 
-    fn step_words(step: &Answer, bytes: u32) -> [u32; 8] {
-        match *step {
-            Answer::Done {
+    fn take(&mut self) -> Answer {
+        self.state.take(&mut memory(&mut self.lent))
+    }
+
+    fn told_words(told: &Answer) -> [u32; 8] {
+        match *told {
+            Answer::Unit {
                 command,
                 memory_address,
+                length,
             } => {
                 let [kind, a, b, c, d] = command_words(&command, memory_address);
-                [0, kind, a, b, c, d, bytes, 0]
+                [0, kind, a, b, c, d, length, 0]
             }
             Answer::Waiting { lacking } => [WAITING, 0, 0, 0, 0, 0, 0, lacking],
             Answer::Refused(refusal) => [refusal.number().into(), 0, 0, 0, 0, 0, 0, 0],

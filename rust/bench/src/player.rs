@@ -21,8 +21,10 @@ pub const POINTER: u32 = START + 40_001;
 pub enum Work {
     /// One run of the largest limit; its units are counted.
     Run,
-    /// So many single steps.
-    Steps(u32),
+    /// So many single takes.
+    Takes(u32),
+    /// So many units, each looked at and then taken.
+    LooksAndTakes(u32),
     /// The same bytes fed so often; the feeds are counted.
     Feeds(Vec<u8>, u32),
     /// So many runs of limit 0.
@@ -46,9 +48,10 @@ impl Input {
     pub fn units(&self) -> u64 {
         match &self.work {
             Work::Run => u64::from(self.stream.units),
-            Work::Steps(times) | Work::Feeds(_, times) | Work::EmptyRuns(times) => {
-                u64::from(*times)
-            }
+            Work::Takes(times)
+            | Work::LooksAndTakes(times)
+            | Work::Feeds(_, times)
+            | Work::EmptyRuns(times) => u64::from(*times),
             Work::Bursts(stream, size) => stream.bytes.chunks(*size).len() as u64,
         }
     }
@@ -60,6 +63,15 @@ struct Player<M> {
     work: Work,
 }
 
+/// Does something so often; how often.
+#[inline(always)]
+fn repeat(times: u32, mut something: impl FnMut()) -> u64 {
+    for _ in 0..times {
+        something();
+    }
+    u64::from(times)
+}
+
 impl<M: Machine> Side for Player<M> {
     fn reset(&mut self) {
         self.machine.reset();
@@ -69,24 +81,19 @@ impl<M: Machine> Side for Player<M> {
         let machine = black_box(&mut self.machine);
         match &self.work {
             Work::Run => u64::from(black_box(machine.run(black_box(LIMIT)))[1]),
-            Work::Steps(times) => {
-                for _ in 0..*times {
-                    black_box(machine.step());
-                }
-                u64::from(*times)
-            }
-            Work::Feeds(bytes, times) => {
-                for _ in 0..*times {
-                    black_box(machine.feed(black_box(bytes)));
-                }
-                u64::from(*times)
-            }
-            Work::EmptyRuns(times) => {
-                for _ in 0..*times {
-                    black_box(machine.run(black_box(0)));
-                }
-                u64::from(*times)
-            }
+            Work::Takes(times) => repeat(*times, || {
+                black_box(machine.take());
+            }),
+            Work::LooksAndTakes(times) => repeat(*times, || {
+                black_box(machine.look());
+                black_box(machine.take());
+            }),
+            Work::Feeds(bytes, times) => repeat(*times, || {
+                black_box(machine.feed(black_box(bytes)));
+            }),
+            Work::EmptyRuns(times) => repeat(*times, || {
+                black_box(machine.run(black_box(0)));
+            }),
             Work::Bursts(stream, size) => {
                 let bursts = stream.bytes.chunks(*size);
                 let count = bursts.len();
@@ -148,12 +155,25 @@ pub fn empty<M: Machine>() -> M {
     set_up(&nothing).0
 }
 
-/// One step, with the bytes that it took by the count register.
-fn step_told<M: Machine>(machine: &mut M) -> [u32; 8] {
-    let [_, before] = machine.read_register(0x030);
-    let step = machine.step();
-    let [_, after] = machine.read_register(0x030);
-    M::step_words(&step, before.wrapping_sub(after))
+/// What takes tell, one after the other, and how many of them did a unit.
+fn takes_told<M: Machine>(machine: &mut M, times: u32) -> (Vec<u32>, u64) {
+    let takes: Vec<[u32; 8]> = (0..times).map(|_| M::told_words(&machine.take())).collect();
+    let done = takes.iter().filter(|words| words[0] == 0).count();
+    (takes.concat(), done as u64)
+}
+
+/// What a look at each unit and the take after it tell; a unit counts where both
+/// tell the same.
+fn looks_and_takes_told<M: Machine>(machine: &mut M, times: u32) -> (Vec<u32>, u64) {
+    let mut told = Vec::new();
+    let mut done = 0;
+    for _ in 0..times {
+        let look = M::told_words(&machine.look());
+        let take = M::told_words(&machine.take());
+        done += u64::from(take[0] == 0 && look == take);
+        told.extend([look, take].concat());
+    }
+    (told, done)
 }
 
 /// Does the work once and tells every answer, and how many units were done.
@@ -164,11 +184,8 @@ fn answers_of<M: Machine>(machine: &mut M, work: &Work) -> (Vec<u32>, u64) {
             let units = if answer[0] == WAITING { answer[1] } else { 0 };
             (answer.to_vec(), u64::from(units))
         }
-        Work::Steps(times) => {
-            let steps: Vec<[u32; 8]> = (0..*times).map(|_| step_told(machine)).collect();
-            let done = steps.iter().filter(|words| words[0] == 0).count();
-            (steps.concat(), done as u64)
-        }
+        Work::Takes(times) => takes_told(machine, *times),
+        Work::LooksAndTakes(times) => looks_and_takes_told(machine, *times),
         Work::Feeds(bytes, times) => {
             let feeds: Vec<u32> = (0..*times).map(|_| machine.feed(bytes)).collect();
             let done = feeds.iter().filter(|&&answer| answer == 0).count();

@@ -133,7 +133,7 @@ pub fn rows() -> Vec<Row> {
     rows.push(stream_row("mixed stream", || mixed(ROOM)));
     rows.extend(BURSTS.map(burst_row));
     rows.extend(feed_rows());
-    rows.push(step_row());
+    rows.extend(single_rows());
     rows.push(machine_row("run of limit 0", "run", || {
         from_empty(Work::EmptyRuns(EMPTY_RUNS))
     }));
@@ -194,16 +194,27 @@ fn feed_rows() -> [Row; 2] {
     ]
 }
 
-fn step_row() -> Row {
-    machine_row("single steps through the mixed stream", "step", || {
-        let stream = mixed(ROOM);
-        let steps = stream.units;
-        Input {
-            preamble: Stream::default(),
-            stream,
-            work: Work::Steps(steps),
-        }
-    })
+/// Every unit of the mixed stream by a take of its own, and with a look before it.
+fn single_rows() -> [Row; 2] {
+    let of = |name, per, work: fn(u32) -> Work| {
+        machine_row(name, per, move || {
+            let stream = mixed(ROOM);
+            let work = work(stream.units);
+            Input {
+                preamble: Stream::default(),
+                stream,
+                work,
+            }
+        })
+    };
+    [
+        of("single takes through the mixed stream", "take", Work::Takes),
+        of(
+            "a look and a take of each unit of the mixed stream",
+            "unit",
+            Work::LooksAndTakes,
+        ),
+    ]
 }
 
 fn burst_row(size: usize) -> Row {

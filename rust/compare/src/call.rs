@@ -34,13 +34,23 @@ impl Patch {
     }
 }
 
+/// What a look or a take tells of the next unit: the number, the unit where that
+/// is 0, the bytes lacking where it is waiting.
+#[derive(Clone, Copy)]
+pub struct Told {
+    pub answer: u32,
+    pub unit: Option<UnitWords>,
+    pub lacking: Option<u32>,
+}
+
 #[derive(Clone, Copy, Debug, PartialEq, Eq, PartialOrd, Ord)]
 pub enum Kind {
     Fresh,
     ReadRegister,
     WriteRegister,
     Feed,
-    Step,
+    Look,
+    Take,
     Run,
     LayOut,
     Decode,
@@ -52,12 +62,13 @@ pub enum Kind {
     WritePatch,
 }
 
-pub const KINDS: [Kind; 14] = [
+pub const KINDS: [Kind; 15] = [
     Kind::Fresh,
     Kind::ReadRegister,
     Kind::WriteRegister,
     Kind::Feed,
-    Kind::Step,
+    Kind::Look,
+    Kind::Take,
     Kind::Run,
     Kind::LayOut,
     Kind::Decode,
@@ -76,7 +87,8 @@ impl Kind {
             Kind::ReadRegister => "read_register",
             Kind::WriteRegister => "write_register",
             Kind::Feed => "feed",
-            Kind::Step => "step",
+            Kind::Look => "look",
+            Kind::Take => "take",
             Kind::Run => "run",
             Kind::LayOut => "lay_out",
             Kind::Decode => "decode",
@@ -96,7 +108,7 @@ impl Kind {
             Kind::ReadRegister => &[DONE, 1, 17],
             Kind::WriteRegister => &[DONE, 17],
             Kind::Feed => &[DONE, 1, 11],
-            Kind::Step | Kind::Run => &[DONE, 1, 2, 3, 4, 5, 6, 7, 8, 9, 10, WAITING],
+            Kind::Look | Kind::Take | Kind::Run => &[DONE, 1, 2, 3, 4, 5, 6, 7, 8, 9, 10, WAITING],
             Kind::LayOut => &[DONE, 9, 10],
             Kind::Decode | Kind::DecodeAll | Kind::RawWords => &[DONE, 9, 10, 19],
             Kind::WriteCommand => &[DONE, 7, 8, 16, 18],
@@ -121,7 +133,11 @@ pub enum Call {
     Feed {
         bytes: Vec<u8>,
     },
-    Step {
+    Look {
+        unit: UnitWords,
+        lacking: u32,
+    },
+    Take {
         unit: UnitWords,
         lacking: u32,
     },
@@ -180,7 +196,8 @@ impl Call {
             Call::ReadRegister { .. } => Kind::ReadRegister,
             Call::WriteRegister { .. } => Kind::WriteRegister,
             Call::Feed { .. } => Kind::Feed,
-            Call::Step { .. } => Kind::Step,
+            Call::Look { .. } => Kind::Look,
+            Call::Take { .. } => Kind::Take,
             Call::Run { .. } => Kind::Run,
             Call::LayOut { .. } => Kind::LayOut,
             Call::Decode { .. } => Kind::Decode,
@@ -190,6 +207,19 @@ impl Call {
             Call::CheckPatch { .. } => Kind::CheckPatch,
             Call::MergePatches { .. } => Kind::MergePatches,
             Call::WritePatch { .. } => Kind::WritePatch,
+        }
+    }
+
+    /// What the call tells of the next unit by its answer; none where it is no
+    /// look and no take.
+    pub fn told(&self, answer: u32) -> Option<Told> {
+        match self {
+            Call::Look { unit, lacking } | Call::Take { unit, lacking } => Some(Told {
+                answer,
+                unit: (answer == DONE).then_some(*unit),
+                lacking: (answer == WAITING).then_some(*lacking),
+            }),
+            _ => None,
         }
     }
 
@@ -270,7 +300,8 @@ impl Call {
             Call::ReadRegister { offset, value } => side.read_register(state, *offset, value),
             Call::WriteRegister { offset, value } => side.write_register(state, *offset, *value),
             Call::Feed { bytes } => side.feed(state, ring, bytes),
-            Call::Step { unit, lacking } => side.step(state, ring, xf, vertex, unit, lacking),
+            Call::Look { unit, lacking } => side.look(state, ring, xf, vertex, unit, lacking),
+            Call::Take { unit, lacking } => side.take(state, ring, xf, vertex, unit, lacking),
             Call::Run { limit, report } => side.run(state, ring, xf, vertex, *limit, report),
             _ => unreachable!("a call with the state"),
         }

@@ -1,7 +1,7 @@
 //! What differs between the two sides after a call, and what both do that the
 //! header does not allow.
 
-use crate::call::{Call, Kind, Patch};
+use crate::call::{Call, Kind, Patch, Told};
 use crate::world::{word, Lent, World};
 use model::words::{DONE, WAITING};
 use std::fmt::Write;
@@ -12,6 +12,8 @@ pub struct Made<'a> {
     pub lent: &'a Lent,
     /// The caller's memory, and the call, as they were before.
     pub before: &'a World,
+    /// What a look told that came right before, with nothing between.
+    pub looked: Option<Told>,
     pub call: &'a Call,
     pub answers: [u32; 2],
     pub calls: &'a [Call; 2],
@@ -55,7 +57,7 @@ fn call_parts(call: &Call) -> Vec<Part> {
             ("value", vec![u32::from(*value)]),
         ],
         Call::Feed { bytes } => vec![("bytes", widen(bytes))],
-        Call::Step { unit, lacking } => {
+        Call::Look { unit, lacking } | Call::Take { unit, lacking } => {
             vec![("unit", unit.to_vec()), ("lacking", vec![*lacking])]
         }
         Call::Run { limit, report } => {
@@ -63,6 +65,14 @@ fn call_parts(call: &Call) -> Vec<Part> {
         }
         _ => stateless_parts(call),
     }
+}
+
+fn told_parts(told: &Told) -> Vec<Part> {
+    vec![
+        ("answer", vec![told.answer]),
+        ("unit", told.unit.into_iter().flatten().collect()),
+        ("lacking", told.lacking.into_iter().collect()),
+    ]
 }
 
 fn stateless_parts(call: &Call) -> Vec<Part> {
@@ -182,7 +192,10 @@ fn list(words: &[u32]) -> String {
 impl Made<'_> {
     /// The first difference, or the first thing that the header rules out.
     pub fn fault(&self) -> Option<String> {
-        let found = self.differs().or_else(|| self.breaks_the_header());
+        let found = self
+            .differs()
+            .or_else(|| self.breaks_the_header())
+            .or_else(|| self.is_unlike_the_look());
         found.map(|(what, values)| self.tell(&what, &values))
     }
 
@@ -228,27 +241,43 @@ impl Made<'_> {
         first(&of(self.before), &of(&self.worlds[0])).map(both_changed)
     }
 
+    /// What a look or a take tells of the next unit, and a look right before it
+    /// told otherwise, on both sides alike.
+    fn is_unlike_the_look(&self) -> Option<(String, [String; 2])> {
+        let (looked, told) = (self.looked?, self.calls[0].told(self.answers[0])?);
+        let (place, [before, after]) = first(&told_parts(&looked), &told_parts(&told))?;
+        let what = format!("nothing, but a look right before told {place}, as {before}");
+        Some((what, [after.clone(), after]))
+    }
+
     /// The bytes lacking, where the call waits.
     fn lacking(&self) -> Option<u32> {
         match &self.calls[0] {
             _ if self.answers[0] != WAITING => None,
-            Call::Step { lacking, .. } => Some(*lacking),
+            Call::Look { lacking, .. } | Call::Take { lacking, .. } => Some(*lacking),
             Call::Run { report, .. } => Some(report[1]),
             _ => None,
         }
     }
 
-    /// The call as it may be after its answer: a refused one as it was, a
-    /// waiting step with the bytes lacking and else as it was, an accepted one
-    /// with its values. A run's report is told whatever the answer.
+    /// The call as it may be after its answer: a refused one as it was, a look or
+    /// a take that waits with the bytes lacking and else as it was, an accepted
+    /// one with its values. A run's report is told whatever the answer.
     fn rightful_call(&self) -> Call {
         let mut rightful = self.call.clone();
         let done = self.answers[0] == DONE;
         let waits = self.answers[0] == WAITING;
         match (&mut rightful, &self.calls[0]) {
             (
-                Call::Step { unit, lacking },
-                Call::Step {
+                Call::Look { unit, lacking },
+                Call::Look {
+                    unit: u,
+                    lacking: l,
+                },
+            )
+            | (
+                Call::Take { unit, lacking },
+                Call::Take {
                     unit: u,
                     lacking: l,
                 },
@@ -282,7 +311,7 @@ impl Made<'_> {
             Call::Run { report, .. } => report[0] == 0,
             _ => self.answers[0] != DONE,
         };
-        let takes = matches!(kind, Kind::Step | Kind::Run) && !still;
+        let takes = matches!(kind, Kind::Take | Kind::Run) && !still;
         let feeds = kind == Kind::Feed && !still;
         if before.ring != after.ring && !feeds {
             Some("ring")
@@ -320,7 +349,12 @@ impl Made<'_> {
         }
         if matches!(
             self.call.kind(),
-            Kind::ReadRegister | Kind::WriteRegister | Kind::Feed | Kind::Step | Kind::Run
+            Kind::ReadRegister
+                | Kind::WriteRegister
+                | Kind::Feed
+                | Kind::Look
+                | Kind::Take
+                | Kind::Run
         ) {
             self.tell_world(&mut text);
         }

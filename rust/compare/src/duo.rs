@@ -1,6 +1,6 @@
 //! Two sides at work on the same calls, compared after each.
 
-use crate::call::{Call, Patch};
+use crate::call::{Call, Kind, Patch, Told};
 use crate::course::Run;
 use crate::difference::Made;
 use crate::random::Random;
@@ -29,6 +29,8 @@ pub struct Duo {
     /// As both worlds were before the call.
     before: World,
     lent: Lent,
+    /// What the last call told, where it was a look and nothing changed since.
+    looked: Option<Told>,
     garbage: Random,
     scenario: &'static str,
     fault: Option<String>,
@@ -42,6 +44,7 @@ impl Duo {
             worlds: [World::new(), World::new()],
             before: World::new(),
             lent: USUAL,
+            looked: None,
             garbage: Random::new(GARBAGE),
             scenario: "start",
             fault: None,
@@ -68,6 +71,7 @@ impl Duo {
 
     /// Changes the memory of both sides alike.
     fn change(&mut self, change: impl Fn(&mut World)) {
+        self.looked = None;
         change(&mut self.before);
         self.worlds.iter_mut().for_each(change);
     }
@@ -75,6 +79,7 @@ impl Duo {
     /// New memory by chance, as long as what is lent.
     pub fn hold(&mut self, lent: Lent) {
         self.lent = lent;
+        self.looked = None;
         self.before.fill(&lent, &mut self.garbage);
         for world in &mut self.worlds {
             world.copy_from(&self.before);
@@ -113,6 +118,7 @@ impl Duo {
             names: [self.sides[0].name(), self.sides[1].name()],
             lent: &self.lent,
             before: &self.before,
+            looked: self.looked,
             call: &call,
             answers,
             calls: &calls,
@@ -128,18 +134,22 @@ impl Duo {
         }
         self.before.copy_from(&self.worlds[0]);
         let [first, _] = calls;
+        let look = first.kind() == Kind::Look;
+        self.looked = first.told(answers[0]).filter(|_| look);
         (answers[0], first)
     }
 
-    /// Counts what a run went through.
+    /// Counts what a run went through, and a take right after a look.
     fn count_course(&mut self, call: &Call, answer: u32) {
-        if let Call::Run { report, .. } = call {
-            self.tally.count_course(&Run {
+        match call {
+            Call::Run { report, .. } => self.tally.count_course(&Run {
                 before: &self.before,
                 after: &self.worlds[0],
                 answer,
                 units: report[0],
-            });
+            }),
+            Call::Take { .. } if self.looked.is_some() => self.tally.count_pair(answer),
+            _ => {}
         }
     }
 
@@ -165,13 +175,29 @@ impl Duo {
     }
 
     /// The answer, the unit, the bytes lacking; what is not told is chance.
-    pub fn step(&mut self) -> (u32, UnitWords, u32) {
+    pub fn look(&mut self) -> (u32, UnitWords, u32) {
         let unit = self.garbage.array();
         let lacking = self.garbage.u32();
-        match self.call(Call::Step { unit, lacking }) {
-            (answer, Call::Step { unit, lacking }) => (answer, unit, lacking),
+        match self.call(Call::Look { unit, lacking }) {
+            (answer, Call::Look { unit, lacking }) => (answer, unit, lacking),
             (answer, _) => (answer, unit, lacking),
         }
+    }
+
+    /// The same of a take.
+    pub fn take(&mut self) -> (u32, UnitWords, u32) {
+        let unit = self.garbage.array();
+        let lacking = self.garbage.u32();
+        match self.call(Call::Take { unit, lacking }) {
+            (answer, Call::Take { unit, lacking }) => (answer, unit, lacking),
+            (answer, _) => (answer, unit, lacking),
+        }
+    }
+
+    /// A look, and then a take with nothing between; what the take tells.
+    pub fn look_and_take(&mut self) -> (u32, UnitWords, u32) {
+        self.look();
+        self.take()
     }
 
     pub fn run(&mut self, limit: u32) -> (u32, ReportWords) {

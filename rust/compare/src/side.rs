@@ -1,4 +1,4 @@
-//! What is compared: fourteen functions over words and slices.
+//! What is compared: fifteen functions over words and slices.
 
 use model::words::{
     self, CommandWords, FormatWords, ReportWords, StateWords, UnitWords, ValueWords, VertexWords,
@@ -13,7 +13,18 @@ pub trait Side {
     fn read_register(&self, state: &StateWords, offset: u16, value: &mut u32) -> u32;
     fn write_register(&self, state: &mut StateWords, offset: u16, value: u16) -> u32;
     fn feed(&self, state: &mut StateWords, ring: &mut [u8], bytes: &[u8]) -> u32;
-    fn step(
+    /// What a look must not change is lent so that a side could change it, but
+    /// the ring, which a take leaves too: that would be seen.
+    fn look(
+        &self,
+        state: &mut StateWords,
+        ring: &[u8],
+        xf: &mut [u32],
+        vertex: &mut [u8],
+        unit: &mut UnitWords,
+        lacking: &mut u32,
+    ) -> u32;
+    fn take(
         &self,
         state: &mut StateWords,
         ring: &[u8],
@@ -109,7 +120,7 @@ macro_rules! side_of {
                 $functions::feed(state, ring, bytes)
             }
 
-            fn step(
+            fn look(
                 &self,
                 state: &mut StateWords,
                 ring: &[u8],
@@ -118,7 +129,19 @@ macro_rules! side_of {
                 unit: &mut UnitWords,
                 lacking: &mut u32,
             ) -> u32 {
-                $functions::step(state, ring, xf, vertex, unit, lacking)
+                $functions::look(state, ring, xf, vertex, unit, lacking)
+            }
+
+            fn take(
+                &self,
+                state: &mut StateWords,
+                ring: &[u8],
+                xf: &mut [u32],
+                vertex: &mut [u8],
+                unit: &mut UnitWords,
+                lacking: &mut u32,
+            ) -> u32 {
+                $functions::take(state, ring, xf, vertex, unit, lacking)
             }
 
             fn run(

@@ -4,7 +4,7 @@ use crate::duo::Duo;
 use crate::formats::{good_vat, good_vcd};
 use crate::random::Random;
 use crate::world::{word, Lent, USUAL};
-use model::words::{DONE, WAITING};
+use model::words::{UnitWords, DONE, WAITING};
 use model::CpRegisters;
 
 /// Where the ring stands and how many bytes it has.
@@ -134,7 +134,7 @@ pub fn set_vat(duo: &mut Duo, format: usize, vat: &[u32; 3]) {
 /// How a stream is fed and taken.
 #[derive(Clone, Copy)]
 pub enum Pace {
-    /// One byte, one step: every deciding byte is seen.
+    /// One byte, one take: every deciding byte is seen.
     ByteByByte,
     /// As much as there is room for, then a run.
     Bulk,
@@ -143,7 +143,7 @@ pub enum Pace {
     Mixed,
 }
 
-/// Feeds the units in pieces that fit, with steps, runs and reads between.
+/// Feeds the units in pieces that fit, with looks, takes, runs and reads between.
 pub fn play(duo: &mut Duo, random: &mut Random, bytes: &[u8], pace: Pace) {
     let mut at = 0;
     while at < bytes.len() && duo.fault().is_none() {
@@ -158,17 +158,18 @@ pub fn play(duo: &mut Duo, random: &mut Random, bytes: &[u8], pace: Pace) {
         at += piece as usize;
         match pace {
             Pace::ByteByByte => {
-                duo.step();
+                take_one(duo, random);
             }
             Pace::Bulk => {
                 duo.run(65_535);
             }
             Pace::Runs => {
                 for _ in 0..random.between(1, 3) {
+                    sometimes_look(duo, random);
                     duo.run(random.below(24));
                 }
             }
-            Pace::Mixed => take_some(duo, random),
+            Pace::Mixed => take_some(duo, random, 8),
         }
         // A full ring whose next unit is refused takes nothing more.
         if most == 0 && !took_some(duo) {
@@ -178,7 +179,7 @@ pub fn play(duo: &mut Duo, random: &mut Random, bytes: &[u8], pace: Pace) {
     end_of_stream(duo, random);
 }
 
-/// Feeds just the bytes that are lacking, as a step or a run tells them, until
+/// Feeds just the bytes that are lacking, as a take or a run tells them, until
 /// the stream ends or a unit is refused.
 pub fn load(duo: &mut Duo, random: &mut Random, bytes: &[u8]) {
     let mut rest = bytes;
@@ -187,7 +188,7 @@ pub fn load(duo: &mut Duo, random: &mut Random, bytes: &[u8]) {
             let (answer, [_, lacking]) = duo.run(random.between(1, 40));
             (answer, lacking)
         } else {
-            let (answer, _, lacking) = duo.step();
+            let (answer, _, lacking) = take_one(duo, random);
             (answer, lacking)
         };
         match answer {
@@ -208,15 +209,26 @@ fn took_some(duo: &mut Duo) -> bool {
     units != 0
 }
 
-fn take_some(duo: &mut Duo, random: &mut Random) {
+/// Takes a unit, about every second time right after a look.
+pub fn take_one(duo: &mut Duo, random: &mut Random) -> (u32, UnitWords, u32) {
+    if random.once_in(2) {
+        duo.look();
+    }
+    duo.take()
+}
+
+/// Units by takes and by runs, sometimes looked at before; then sometimes a read.
+pub fn take_some(duo: &mut Duo, random: &mut Random, most: u32) {
     for _ in 0..random.below(4) {
         if random.once_in(3) {
-            duo.run(random.below(8));
+            sometimes_look(duo, random);
+            duo.run(random.below(most));
         } else {
-            duo.step();
+            take_one(duo, random);
         }
     }
-    look(duo, random);
+    sometimes_look(duo, random);
+    sometimes_read(duo, random);
 }
 
 /// What is left, so that the next stream finds the ring empty.
@@ -225,7 +237,7 @@ fn end_of_stream(duo: &mut Duo, random: &mut Random) {
         duo.run(any_limit(random));
     } else {
         for _ in 0..5 {
-            duo.step();
+            take_one(duo, random);
         }
     }
     duo.run(65_535);
@@ -240,8 +252,15 @@ pub fn any_limit(random: &mut Random) -> u32 {
     }
 }
 
+/// Sometimes a look, whatever comes next.
+pub fn sometimes_look(duo: &mut Duo, random: &mut Random) {
+    if random.once_in(4) {
+        duo.look();
+    }
+}
+
 /// Sometimes a read.
-pub fn look(duo: &mut Duo, random: &mut Random) {
+pub fn sometimes_read(duo: &mut Duo, random: &mut Random) {
     if random.once_in(4) {
         duo.read(random.pick(&[0x000, 0x030, 0x030, 0x032, 0x034, 0x036, 0x038, 0x03A]));
     }

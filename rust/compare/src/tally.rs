@@ -16,7 +16,7 @@ const VALUES: [u32; 9] = [0, 1, 2, 3, 4, 5, 6, 7, 8];
 
 /// The metrics opcode until document 02's L2, and the calls that meet it.
 const OLD_METRICS: u32 = 0x68;
-const MEET_OLD_METRICS: [Kind; 3] = [Kind::Step, Kind::Run, Kind::WriteCommand];
+const MEET_OLD_METRICS: [Kind; 4] = [Kind::Look, Kind::Take, Kind::Run, Kind::WriteCommand];
 const UNKNOWN_OPCODE: u32 = 6;
 const UNWRITABLE: u32 = 18;
 
@@ -37,8 +37,12 @@ type Normal = (Kind, u32, (u32, u32));
 pub struct Tally {
     pub calls: u64,
     answers: Counts<(Kind, u32)>,
-    /// By the kind of the unit that a step did.
+    /// By the kind of the unit that a look showed.
+    shown: Counts<u32>,
+    /// By the kind of the unit that a take did.
     units: Counts<u32>,
+    /// Takes right after a look, by their answer.
+    pairs: Counts<u32>,
     /// By the kind of the command that was written.
     written: Counts<u32>,
     /// 68, refused as an opcode or as a kind to write.
@@ -74,7 +78,9 @@ impl Tally {
         self.calls += 1;
         add(&mut self.answers, (call.kind(), answer));
         match call {
-            Call::Step { .. } | Call::Run { .. } => self.count_units(call, answer, next),
+            Call::Look { .. } | Call::Take { .. } | Call::Run { .. } => {
+                self.count_units(call, answer, next);
+            }
             Call::Decode { values, .. } if answer == DONE => add(&mut self.values, values[0]),
             Call::DecodeAll { values, .. } if answer == DONE => {
                 for value in values.chunks_exact(VALUE_WORDS) {
@@ -96,8 +102,11 @@ impl Tally {
 
     fn count_units(&mut self, call: &Call, answer: u32, next: Option<u8>) {
         match call {
-            Call::Step { unit, .. } if answer == DONE => add(&mut self.units, unit[0]),
-            Call::Step { lacking, .. } if answer == WAITING => add(&mut self.lacking, *lacking),
+            Call::Look { unit, .. } if answer == DONE => add(&mut self.shown, unit[0]),
+            Call::Take { unit, .. } if answer == DONE => add(&mut self.units, unit[0]),
+            Call::Look { lacking, .. } | Call::Take { lacking, .. } if answer == WAITING => {
+                add(&mut self.lacking, *lacking);
+            }
             Call::Run { report, .. } => {
                 self.run_units += u64::from(report[0]);
                 if answer == WAITING {
@@ -116,6 +125,11 @@ impl Tally {
         for mark in run.marks() {
             add(&mut self.marks, mark);
         }
+    }
+
+    /// Counts a take that told what a look right before it did.
+    pub fn count_pair(&mut self, answer: u32) {
+        add(&mut self.pairs, answer);
     }
 
     fn count_normal(&mut self, call: &Call) {
@@ -161,14 +175,12 @@ impl Tally {
                 }
             }
         }
-        for unit in UNITS {
-            if !self.units.contains_key(&unit) {
-                unreached.push(format!("a step of kind {unit:02X}"));
-            }
-            if unit != VERTEX && !self.written.contains_key(&unit) {
-                unreached.push(format!("a command of kind {unit:02X} written"));
+        for &answer in Kind::Take.answers() {
+            if !self.pairs.contains_key(&answer) {
+                unreached.push(format!("a look and a take answering {}", told(answer)));
             }
         }
+        unreached.extend(self.unreached_units());
         for kind in MEET_OLD_METRICS {
             if !self.old_metrics.contains_key(&kind) {
                 unreached.push(format!("{} refusing {OLD_METRICS:02X}", kind.name()));
@@ -183,6 +195,22 @@ impl Tally {
             }
         }
         unreached.extend(self.unreached_normals());
+        unreached
+    }
+
+    fn unreached_units(&self) -> Vec<String> {
+        let mut unreached = Vec::new();
+        for unit in UNITS {
+            if !self.shown.contains_key(&unit) {
+                unreached.push(format!("a look at a unit of kind {unit:02X}"));
+            }
+            if !self.units.contains_key(&unit) {
+                unreached.push(format!("a take of a unit of kind {unit:02X}"));
+            }
+            if unit != VERTEX && !self.written.contains_key(&unit) {
+                unreached.push(format!("a command of kind {unit:02X} written"));
+            }
+        }
         unreached
     }
 
@@ -215,7 +243,10 @@ impl Tally {
                 .collect();
             println!("  {:<15}{:>9} {answers}", kind.name(), self.of_kind(kind));
         }
-        println!("units done by steps, by kind:{}", list(&self.units));
+        println!("units shown by looks, by kind:{}", list(&self.shown));
+        println!("units done by takes, by kind:{}", list(&self.units));
+        let pairs: u64 = self.pairs.values().sum();
+        println!("takes right after a look, that told the same: {pairs}");
         println!("units done by runs: {}", self.run_units);
         println!("commands written, by kind:{}", list(&self.written));
         let old: String = MEET_OLD_METRICS

@@ -4,7 +4,7 @@
 
 mod common;
 
-use common::{Faulty, FAULTS};
+use common::{Fault, Faulty, FAULTS};
 use compare::duo::Duo;
 use compare::random::Random;
 use compare::scenarios;
@@ -22,10 +22,10 @@ fn no_fault_no_difference() {
     assert_eq!(duo.tally.unreached(), Vec::<String>::new());
 }
 
-/// Nor by runs that are made of steps, as those with a fault of runs are.
+/// Nor by runs that are made of takes, as those with a fault of runs are.
 #[test]
-fn steps_are_no_difference() {
-    let mut duo = Duo::new(Box::new(Faulty(common::Fault::OnlySteps)), Box::new(Twin));
+fn takes_are_no_difference() {
+    let mut duo = Duo::new(Box::new(Faulty(Fault::OnlyTakes)), Box::new(Twin));
     scenarios::compare(&mut duo, SEED, CALLS);
     assert_eq!(duo.fault(), None);
 }
@@ -74,40 +74,60 @@ fn every_fault_is_found_on_the_other_side() {
     }
 }
 
-/// Where both sides have the same fault, those are found that the header rules
-/// out whatever the rules are: a refused call that changes something, a call
-/// that changes what it must not, bytes lacking that cannot be.
+/// Those of the faults that the header rules out whatever the rules are: a refused
+/// call that changes something, a call that changes what it must not, bytes lacking
+/// that cannot be, a look and a take that do not tell the same.
+const RULED_OUT: &[Fault] = &[
+    Fault::ValueZeroed,
+    Fault::UnitZeroed,
+    Fault::LayoutZeroed,
+    Fault::ValuesZeroed,
+    Fault::RawWordsZeroed,
+    Fault::WrittenZeroed,
+    Fault::PatchWrittenZeroed,
+    Fault::MergedZeroed,
+    Fault::LackingZeroedByRefusal,
+    Fault::LackingZeroedByUnit,
+    Fault::LackingNone,
+    Fault::LackingPastTheRoom,
+    Fault::RunLacksNone,
+    Fault::LimitRunLacksOne,
+    Fault::DrawNormalisedByRefusal,
+    Fault::DrawNormalisedByWrite,
+    Fault::DrawNormalisedByFeed,
+    Fault::DrawNormalisedByEmptyRun,
+    Fault::FeedStoresReadPointer,
+    Fault::FeedMovesWhenRefused,
+    Fault::VertexCopiedByWaiting,
+    Fault::ShortOutputPartly,
+    Fault::ShortPatchPartly,
+    Fault::TailCleared,
+    Fault::MergeOfFirstWithin,
+    Fault::OldMetricsToWriteGives6,
+    Fault::LookTakes,
+    Fault::LookMovesThePointer,
+    Fault::LookStoresXfWords,
+    Fault::LookCopiesVertex,
+    Fault::LookClearsStaleDraw,
+    Fault::LookShowsNoOperation,
+    Fault::LookTellsAnotherLength,
+    Fault::LookWithoutAddress,
+    Fault::LookPastTheDraw,
+    Fault::LookWithout2,
+    Fault::LookWithout3,
+    Fault::LookWithout4And5,
+    Fault::LookGives4Before2,
+    Fault::LookAwaitsTheUnit,
+    Fault::LookLacksOne,
+    Fault::LookUnitZeroed,
+    Fault::LookLackingZeroed,
+    Fault::TakeNamesAnother,
+];
+
+/// They are found where both sides have the same.
 #[test]
 fn a_fault_of_both_sides() {
-    use common::Fault::*;
-    for fault in [
-        ValueZeroed,
-        UnitZeroed,
-        LayoutZeroed,
-        ValuesZeroed,
-        RawWordsZeroed,
-        WrittenZeroed,
-        PatchWrittenZeroed,
-        MergedZeroed,
-        LackingZeroedByRefusal,
-        LackingZeroedByUnit,
-        LackingNone,
-        LackingPastTheRoom,
-        RunLacksNone,
-        LimitRunLacksOne,
-        DrawNormalisedByRefusal,
-        DrawNormalisedByWrite,
-        DrawNormalisedByFeed,
-        DrawNormalisedByEmptyRun,
-        FeedStoresReadPointer,
-        FeedMovesWhenRefused,
-        VertexCopiedByWaiting,
-        ShortOutputPartly,
-        ShortPatchPartly,
-        TailCleared,
-        MergeOfFirstWithin,
-        OldMetricsToWriteGives6,
-    ] {
+    for &fault in RULED_OUT {
         let mut duo = Duo::new(Box::new(Faulty(fault)), Box::new(Faulty(fault)));
         scenarios::compare(&mut duo, SEED, CALLS);
         assert!(duo.fault().is_some(), "{fault:?} was not found");
@@ -118,7 +138,7 @@ fn a_fault_of_both_sides() {
 /// nothing is called after it.
 #[test]
 fn a_difference_is_told() {
-    let mut duo = Duo::new(Box::new(Faulty(common::Fault::ValueZeroed)), Box::new(Twin));
+    let mut duo = Duo::new(Box::new(Faulty(Fault::ValueZeroed)), Box::new(Twin));
     scenarios::compare(&mut duo, SEED, CALLS);
     let told = duo.fault().expect("a difference").to_string();
     let calls = duo.tally.calls;
@@ -133,18 +153,32 @@ fn a_difference_is_told() {
     ] {
         assert!(told.contains(part), "{part} in {told}");
     }
-    duo.step();
+    duo.take();
     assert_eq!(duo.tally.calls, calls);
     assert_eq!(duo.fault(), Some(&told[..]));
+}
+
+/// So is a take that does not tell what a look right before it told, on both
+/// sides alike.
+#[test]
+fn a_take_unlike_its_look_is_told() {
+    let faulty = || Box::new(Faulty(Fault::LookTellsAnotherLength));
+    let mut duo = Duo::new(faulty(), faulty());
+    scenarios::compare(&mut duo, SEED, CALLS);
+    let told = duo.fault().expect("a difference");
+    for part in [
+        "\", take:",
+        "differs first: nothing, but a look right before told unit, place 5, as 6",
+        "faulty: 5",
+    ] {
+        assert!(told.contains(part), "{part} in {told}");
+    }
 }
 
 #[test]
 fn a_seed_gives_the_same_calls() {
     let fault = |seed| {
-        let mut duo = Duo::new(
-            Box::new(Faulty(common::Fault::DrawLeftStale)),
-            Box::new(Twin),
-        );
+        let mut duo = Duo::new(Box::new(Faulty(Fault::DrawLeftStale)), Box::new(Twin));
         let mut random = Random::new(seed);
         while duo.fault().is_none() {
             scenarios::by_chance(&mut duo, &mut random);

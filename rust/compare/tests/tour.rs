@@ -1,7 +1,8 @@
 //! Every call, accepted and refused, of the proved library and of the twin. The
-//! answers that are expected come from document 01, from document 02's L2, which
-//! stands where the two differ, and from `include/duckhammock.h`. That a refused
-//! call changes nothing, and that only a waiting step tells the bytes lacking, is
+//! answers that are expected come from document 01, from document 02's L2 and L6,
+//! which stand where the two differ, and from `include/duckhammock.h`. That a
+//! refused call and a look change nothing, that only a waiting look or take tells
+//! the bytes lacking, and that a take tells what a look right before it told, is
 //! seen after every call (`Duo`).
 #![forbid(unsafe_code)]
 
@@ -54,25 +55,39 @@ impl Tour {
         assert_eq!(told, answer);
     }
 
+    /// A look shows the unit.
     #[track_caller]
-    fn steps(&mut self, unit: UnitWords) {
-        let (answer, told, _) = self.0.step();
+    fn shows(&mut self, unit: UnitWords) {
+        let (answer, told, _) = self.0.look();
         self.same();
         assert_eq!((answer, told), (DONE, unit));
     }
 
+    /// A look shows the unit, and a take does it.
     #[track_caller]
-    fn waits(&mut self, bytes: u32) {
-        let (answer, _, lacking) = self.0.step();
+    fn takes(&mut self, unit: UnitWords) {
+        self.shows(unit);
+        let (answer, told, _) = self.0.take();
         self.same();
-        assert_eq!((answer, lacking), (WAITING, bytes));
+        assert_eq!((answer, told), (DONE, unit));
     }
 
+    /// A look and a take wait for so many bytes.
     #[track_caller]
-    fn step_refused(&mut self, refusal: u32) {
-        let (answer, _, _) = self.0.step();
-        self.same();
-        assert_eq!(answer, refusal);
+    fn waits(&mut self, bytes: u32) {
+        for (answer, _, lacking) in [self.0.look(), self.0.take()] {
+            self.same();
+            assert_eq!((answer, lacking), (WAITING, bytes));
+        }
+    }
+
+    /// A look and a take are refused.
+    #[track_caller]
+    fn unit_refused(&mut self, refusal: u32) {
+        for (answer, _, _) in [self.0.look(), self.0.take()] {
+            self.same();
+            assert_eq!(answer, refusal);
+        }
     }
 
     #[track_caller]
@@ -202,6 +217,7 @@ fn every_call_is_answered_as_the_papers_say() {
     most_units(&mut tour);
     indexed_loads(&mut tour);
     metrics(&mut tour);
+    looks(&mut tour);
     refused_units(&mut tour);
     refused_benches(&mut tour);
     refused_lengths(&mut tour);
@@ -293,7 +309,7 @@ fn loads_of_arrays(tour: &mut Tour) {
     tour.reads(0x030, 3);
     tour.waits(3);
     tour.feeds(&[0x00, 0x10, 0x00], DONE);
-    tour.steps([0x08, 0xAC, 0x1000, 0, 0, 6]);
+    tour.takes([0x08, 0xAC, 0x1000, 0, 0, 6]);
     tour.holds(word::BASES + 12, 0x1000);
     tour.holds(word::READ, 0x1004);
     tour.feeds(
@@ -303,7 +319,7 @@ fn loads_of_arrays(tour: &mut Tour) {
     tour.runs(1, DONE, [1, 0]);
     tour.holds(word::STRIDES + 12, 0x40);
     // "20 00 03 B0 00 with base 1000, stride 40 (hex) reports 10C0, 12 words".
-    tour.steps([0x20, 3, 12, 0, 0x10C0, 5]);
+    tour.takes([0x20, 3, 12, 0, 0x10C0, 5]);
 }
 
 fn stream(tour: &mut Tour) {
@@ -318,16 +334,16 @@ fn stream(tour: &mut Tour) {
     );
     tour.runs(0, DONE, [0, 0]);
     let mut xf = tour.0.world().xf.clone();
-    tour.steps([0x10, 2, 0x1000, 0, 0, 13]);
+    tour.takes([0x10, 2, 0x1000, 0, 0, 13]);
     xf[0x1000..0x1002].copy_from_slice(&[0x0102_0304, 0x0506_0708]);
     assert!(tour.0.world().xf == xf);
     tour.runs(2, DONE, [2, 0]);
     tour.holds(word::BP + 0x41, 0x05);
     tour.holds(word::BP + 0xFE, 0xFF_FFFF);
-    tour.steps([0x40, 0x2000, 0x100, 0, 0, 9]);
-    tour.steps([0x00, 0, 0, 0, 0, 1]);
-    tour.steps([0x48, 0, 0, 0, 0, 1]);
-    tour.steps([0x44, 0, 0, 0, 0, 1]);
+    tour.takes([0x40, 0x2000, 0x100, 0, 0, 9]);
+    tour.takes([0x00, 0, 0, 0, 0, 1]);
+    tour.takes([0x48, 0, 0, 0, 0, 1]);
+    tour.takes([0x44, 0, 0, 0, 0, 1]);
     tour.runs(65_535, WAITING, [0, 4]);
     tour.feeds(&[0x41, 1, 2, 3], DONE);
     tour.runs(9, WAITING, [1, 1]);
@@ -372,20 +388,20 @@ fn draw(tour: &mut Tour) {
     );
     tour.feeds(&[0x93, 0, 3], DONE);
     tour.runs(2, DONE, [2, 0]);
-    tour.steps([0x80, 2, 3, 3, 0, 3]);
+    tour.takes([0x80, 2, 3, 3, 0, 3]);
     tour.holds_draw([1, 2, 3, 3]);
     tour.reads(0x000, 0b0100);
     tour.waits(16);
     let vertex: Vec<u8> = (1..=16).collect();
     let mut buffer = tour.0.world().vertex.clone();
     tour.feeds(&vertex, DONE);
-    tour.steps([0x01, 0, 0, 0, 0, 16]);
+    tour.takes([0x01, 0, 0, 0, 0, 16]);
     buffer[..16].copy_from_slice(&vertex);
     assert_eq!(tour.0.world().vertex, buffer);
     tour.feeds(&vertex[..15], DONE);
     tour.waits(1);
     tour.feeds(&[0xFF], DONE);
-    tour.steps([0x01, 0, 0, 0, 0, 16]);
+    tour.takes([0x01, 0, 0, 0, 0, 16]);
     buffer[15] = 0xFF;
     assert_eq!(tour.0.world().vertex, buffer);
     tour.holds_draw([1, 2, 3, 1]);
@@ -395,7 +411,7 @@ fn draw(tour: &mut Tour) {
     tour.reads(0x000, 0b1100);
     // No vertex: no draw is open after it.
     tour.feeds(&[0x93, 0, 0], DONE);
-    tour.steps([0x80, 2, 3, 0, 0, 3]);
+    tour.takes([0x80, 2, 3, 0, 0, 3]);
     tour.holds_draw([0; 4]);
 }
 
@@ -407,7 +423,7 @@ fn indexed_loads(tour: &mut Tour) {
         tour.0.poke(word::STRIDES + array, array as u32);
         tour.feeds(&[kind, 0x00, 0x10, 0x0A, 0xBC], DONE);
         let address = 0x100 * array as u32 + 0x10 * array as u32;
-        tour.steps([kind.into(), 0x10, 1, 0xABC, address, 5]);
+        tour.takes([kind.into(), 0x10, 1, 0xABC, address, 5]);
     }
 }
 
@@ -433,7 +449,7 @@ fn metrics(tour: &mut Tour) {
     bench(tour);
     tour.feeds(&[0x44], DONE);
     let before = tour.0.world().clone();
-    tour.steps([0x44, 0, 0, 0, 0, 1]);
+    tour.takes([0x44, 0, 0, 0, 0, 1]);
     tour.waits(1);
     // But for the read pointer all is as it was.
     tour.holds(word::READ, 0x1081);
@@ -442,13 +458,13 @@ fn metrics(tour: &mut Tour) {
 
     bench(tour);
     tour.feeds(&[0x68], DONE);
-    tour.step_refused(6);
+    tour.unit_refused(6);
     tour.runs(1, 6, [0, 0]);
     tour.holds(word::READ, 0x1080);
     tour.reads(0x030, 1);
     // More bytes do not change that.
     tour.feeds(&[0x44, 0, 0, 0], DONE);
-    tour.step_refused(6);
+    tour.unit_refused(6);
     tour.reads(0x030, 5);
 
     // A run keeps the units before it.
@@ -464,6 +480,42 @@ fn metrics(tour: &mut Tour) {
     tour.feeds(&[0x80, 0, 1, 0x68, 0x44], DONE);
     tour.runs(9, WAITING, [2, 1]);
     assert_eq!(tour.0.world().vertex[..2], [0x68, 0x44]);
+}
+
+/// "one call tells what the next unit is, with its length, and changes nothing"
+/// (document 02, L6): it may be asked again, with other calls between.
+fn looks(tour: &mut Tour) {
+    bench(tour);
+    // An XF load over the ring's end, a draw's head and its vertex, a BP load.
+    tour.0.poke(word::WRITE, 0x10FA);
+    tour.0.poke(word::READ, 0x10FA);
+    let vertex: Vec<u8> = (1..=16).collect();
+    tour.feeds(&[0x10, 0, 0, 0, 5, 1, 2, 3], DONE);
+    tour.waits(1);
+    tour.feeds(&[4, 0x93, 0, 1], DONE);
+    tour.feeds(&vertex, DONE);
+    tour.feeds(&[0x61, 0x41, 0, 0, 5], DONE);
+    let before = tour.0.world().clone();
+    let units = [
+        [0x10, 1, 5, 0, 0, 9],
+        [0x80, 2, 3, 1, 0, 3],
+        [0x01, 0, 0, 0, 0, 16],
+        [0x61, 0x41, 5, 0, 0, 5],
+    ];
+    for _ in 0..3 {
+        tour.shows(units[0]);
+        tour.reads(0x030, 9 + 3 + 16 + 5);
+        tour.writes(0x004, 7, DONE);
+        tour.runs(0, DONE, [0, 0]);
+        assert!(tour.0.world() == &before);
+    }
+    for unit in units {
+        tour.takes(unit);
+    }
+    assert_eq!(tour.0.world().xf[5], 0x0102_0304);
+    assert_eq!(tour.0.world().vertex[..16], vertex);
+    tour.holds(word::BP + 0x41, 5);
+    tour.waits(1);
 }
 
 /// Refused at the deciding byte and not before it.
@@ -485,17 +537,17 @@ fn refused_units(tour: &mut Tour) {
         tour.0.poke(word::VAT + 3, 0x1C000);
         for &byte in &unit[..unit.len() - 1] {
             tour.feeds(&[byte], DONE);
-            let (answer, _, _) = tour.0.step();
+            let (answer, _, _) = tour.0.look_and_take();
             assert_eq!(answer, WAITING);
         }
         tour.feeds(&unit[unit.len() - 1..], DONE);
-        tour.step_refused(refusal);
+        tour.unit_refused(refusal);
         tour.runs(5, refusal, [0, 0]);
         tour.runs(0, DONE, [0, 0]);
     }
 }
 
-/// What a bench that 1, 4 or 5 refuses answers: step and run, feed, count.
+/// What a bench that 1, 4 or 5 refuses answers: look, take and run, feed, count.
 fn refused_benches(tour: &mut Tour) {
     for (index, value, refusal, window) in [
         (word::END, 0x1101, 1, false),
@@ -511,7 +563,7 @@ fn refused_benches(tour: &mut Tour) {
     ] {
         bench(tour);
         tour.0.poke(index, value);
-        tour.step_refused(refusal);
+        tour.unit_refused(refusal);
         tour.runs(0, refusal, [0, 0]);
         tour.runs(1, refusal, [0, 0]);
         if window {
@@ -539,13 +591,13 @@ fn refused_lengths(tour: &mut Tour) {
         bench(tour);
         tour.0.lend(ring, xf, vertex);
         tour.feeds(&[0x00], fed);
-        tour.step_refused(refusal);
+        tour.unit_refused(refusal);
         tour.runs(1, refusal, [0, 0]);
     }
     bench(tour);
     tour.0.lend(256, 4184, 300);
     tour.feeds(&[0x00], DONE);
-    tour.steps([0x00, 0, 0, 0, 0, 1]);
+    tour.takes([0x00, 0, 0, 0, 0, 1]);
 }
 
 /// "A word that its field cannot hold is refused by 1" (the header).
@@ -565,7 +617,7 @@ fn wide_words(tour: &mut Tour) {
         for (at, value) in words.into_iter().enumerate() {
             tour.0.poke(word::DRAW_OPEN + at, value);
         }
-        tour.step_refused(1);
+        tour.unit_refused(1);
         tour.runs(1, 1, [0, 0]);
         // Calls that do not test them leave them as they are.
         tour.feeds(&[0x00], DONE);
@@ -575,7 +627,7 @@ fn wide_words(tour: &mut Tour) {
     }
     bench(tour);
     tour.0.poke(word::CONTROL, 0x1_0001);
-    tour.step_refused(1);
+    tour.unit_refused(1);
     tour.reads(0x002, 0x1_0001);
     tour.writes(0x02C, 5, DONE);
     tour.holds(word::CONTROL, 0x1_0001);
@@ -588,8 +640,8 @@ fn wide_words(tour: &mut Tour) {
     tour.waits(16);
 }
 
-/// "While no draw is open, words 8 to 10 are not looked at; a step or a run that
-/// does a unit leaves them 0" (the header).
+/// "While no draw is open, words 8 to 10 are not looked at, and a take or a run that
+/// does a unit leaves them 0 where none is open after it." (the header).
 fn stale_words(tour: &mut Tour) {
     bench(tour);
     let stale = [0, 0x1_0008, 0xFFFF_FFFF, 0];
@@ -602,13 +654,14 @@ fn stale_words(tour: &mut Tour) {
     tour.reads(0x000, 0b1100);
     tour.holds_draw(stale);
     tour.feeds(&[0x00], DONE);
+    tour.shows([0x00, 0, 0, 0, 0, 1]);
     tour.holds_draw(stale);
-    tour.steps([0x00, 0, 0, 0, 0, 1]);
+    tour.takes([0x00, 0, 0, 0, 0, 1]);
     tour.holds_draw([0; 4]);
     // Bytes that stand in the ring are units as well as fed ones.
     tour.0.poke_ring(0x81, &[0x61, 0x10, 0x12, 0x34, 0x56]);
     tour.0.poke(word::WRITE, 0x1086);
-    tour.steps([0x61, 0x10, 0x12_3456, 0, 0, 5]);
+    tour.takes([0x61, 0x10, 0x12_3456, 0, 0, 5]);
 }
 
 /// 26 bytes: a matrix, a position of f32, a normal of s16, a colour, a texture

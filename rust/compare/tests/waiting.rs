@@ -1,8 +1,8 @@
 //! Document 02's L4, of the proved library and of the twin, in a ring of 256
-//! bytes: what a step and a run that wait say is lacking of a unit of every kind,
-//! cut at every byte, from several places of the ring; that a loader which feeds
-//! just that many has every feed accepted, and three are enough for a unit; and
-//! that a run which ends otherwise says nothing is lacking.
+//! bytes: what a look, a take and a run that wait say is lacking of a unit of every
+//! kind, cut at every byte, from several places of the ring; that a loader which
+//! feeds just that many has every feed accepted, and three are enough for a unit;
+//! and that a run which ends otherwise says nothing is lacking.
 #![forbid(unsafe_code)]
 
 use compare::side::{Proved, Side, Twin};
@@ -66,10 +66,24 @@ impl Machine {
         assert_eq!(answer, DONE, "{}: {} bytes", self.side.name(), bytes.len());
     }
 
-    /// The answer of a step, and the bytes lacking.
-    fn step(&mut self) -> (u32, u32) {
+    /// The answer of a look, and the bytes lacking.
+    fn look(&mut self) -> (u32, u32) {
         let mut lacking = BEFORE;
-        let answer = self.side.step(
+        let answer = self.side.look(
+            &mut self.state,
+            &self.ring,
+            &mut self.xf,
+            &mut self.vertex,
+            &mut [BEFORE; 6],
+            &mut lacking,
+        );
+        (answer, lacking)
+    }
+
+    /// The same of a take.
+    fn take(&mut self) -> (u32, u32) {
+        let mut lacking = BEFORE;
+        let answer = self.side.take(
             &mut self.state,
             &self.ring,
             &mut self.xf,
@@ -94,17 +108,22 @@ impl Machine {
         (answer, report[0], report[1])
     }
 
-    /// A step waits for so many bytes, and so does a run.
+    /// A look and a take wait for so many bytes, and so does a run.
     #[track_caller]
     fn waits(&mut self, lacking: usize) {
-        assert_eq!(
-            self.step(),
-            (WAITING, lacking as u32),
-            "{}",
-            self.side.name()
-        );
-        assert_eq!(self.run(MOST_UNITS), (WAITING, 0, lacking as u32));
-        assert!((1..=self.room()).contains(&(lacking as u32)));
+        let lacking = lacking as u32;
+        let told = [self.look(), self.take()];
+        assert_eq!(told, [(WAITING, lacking); 2], "{}", self.side.name());
+        assert_eq!(self.run(MOST_UNITS), (WAITING, 0, lacking));
+        assert!((1..=self.room()).contains(&lacking));
+    }
+
+    /// A look, a take and a run are refused, and tell no bytes.
+    #[track_caller]
+    fn refuses(&mut self, refusal: u32) {
+        let told = [self.look(), self.take()];
+        assert_eq!(told, [(refusal, BEFORE); 2], "{}", self.side.name());
+        assert_eq!(self.run(MOST_UNITS), (refusal, 0, 0));
     }
 }
 
@@ -193,21 +212,18 @@ fn a_refusal_comes_before_waiting() {
         machine.feed(&[0x10, 0, 1, 0x10]);
         machine.waits(1);
         machine.feed(&[0x57]);
-        assert_eq!(machine.step(), (8, BEFORE));
-        assert_eq!(machine.run(MOST_UNITS), (8, 0, 0));
+        machine.refuses(8);
     }
     for (bytes, refusal) in [(&[0x68][..], 6), (&[0x08, 0x78], 7), (&[0x91], 10)] {
         for mut machine in machines(0) {
             machine.feed(bytes);
-            assert_eq!(machine.step(), (refusal, BEFORE));
-            assert_eq!(machine.run(MOST_UNITS), (refusal, 0, 0));
+            machine.refuses(refusal);
         }
     }
     for mut machine in machines(0) {
         machine.state[word::VCD_0] = 0;
         machine.open_draw(2);
-        assert_eq!(machine.step(), (9, BEFORE));
-        assert_eq!(machine.run(MOST_UNITS), (9, 0, 0));
+        machine.refuses(9);
     }
 }
 
@@ -222,16 +238,14 @@ fn a_run_ended_by_its_limit_tells_none() {
     }
 }
 
-/// Feeds just what a step says is lacking, with no feed for a unit after the
-/// third.
-#[test]
-fn a_loader_that_steps() {
+/// Feeds just what is said to be lacking, with no feed for a unit after the third.
+fn load_by(tell: fn(&mut Machine) -> (u32, u32)) {
     let stream = units().concat();
     for place in 0..SIZE {
         for mut machine in machines(place) {
             let (mut at, mut done, mut feeds) = (0, 0, 0);
             while at < stream.len() || done < units().len() {
-                match machine.step() {
+                match tell(&mut machine) {
                     (WAITING, lacking) => {
                         assert!((1..=machine.room()).contains(&lacking));
                         let end = at + lacking as usize;
@@ -248,6 +262,20 @@ fn a_loader_that_steps() {
             machine.waits(1);
         }
     }
+}
+
+#[test]
+fn a_loader_that_takes() {
+    load_by(Machine::take);
+}
+
+/// By looks alone: no unit is tried to be taken before it is all there.
+#[test]
+fn a_loader_that_looks() {
+    load_by(|machine| match machine.look() {
+        (DONE, _) => machine.take(),
+        told => told,
+    });
 }
 
 /// The same with runs: no more than three feeds for each unit, and the XF loads

@@ -4,7 +4,7 @@
 
 mod common;
 
-use common::{done, exact_bits, format, Bench};
+use common::{exact_bits, format, told, Bench};
 use model::{
     decode, raw_words, words, write_command, Answer, Attribute, Command, Draw, End, Refusal, Run,
 };
@@ -180,7 +180,7 @@ fn metrics_is_one_byte_of_no_effect() {
     let mut bench = Bench::new(256).at(0x10FF);
     bench.feed(&[0x44]).unwrap();
     let before = bench.copy();
-    assert_eq!(bench.step(), done(Command::Metrics));
+    assert_eq!(bench.take(), told(Command::Metrics, 1));
     // The read pointer moves by one byte, around the ring's end.
     assert_eq!(bench.state.window.read, 0x1000);
     assert_eq!(bench.state.window.count(), Ok(0));
@@ -196,7 +196,7 @@ fn the_old_metrics_byte_is_refused() {
     bench.feed(&[0x68]).unwrap();
     for _ in 0..3 {
         let before = bench.copy();
-        assert_eq!(bench.step(), Answer::Refused(Refusal::Opcode));
+        assert_eq!(bench.take(), Answer::Refused(Refusal::Opcode));
         assert_eq!(Refusal::Opcode.number(), 6);
         let refused = Run {
             units: 0,
@@ -226,13 +226,13 @@ fn both_bytes_within_other_units() {
         format: 0,
         left: 1,
     });
-    assert_eq!(bench.unit(&[0x68, 0x44]), done(Command::Vertex));
+    assert_eq!(bench.unit(&[0x68, 0x44]), told(Command::Vertex, 2));
     assert_eq!(bench.vertex[..2], [0x68, 0x44]);
     let load = Command::BpLoad {
         register: 0x68,
         number: 0x44_6844,
     };
-    assert_eq!(bench.unit(&[0x61, 0x68, 0x44, 0x68, 0x44]), done(load));
+    assert_eq!(bench.unit(&[0x61, 0x68, 0x44, 0x68, 0x44]), told(load, 5));
     assert_eq!(bench.state.bp[0x68], 0x44_6844);
 }
 
@@ -254,9 +254,9 @@ fn metrics_written() {
     assert_eq!(short, Err(Refusal::OutputShort));
     assert_eq!(write_kind(0x44), (words::DONE, [0x44, 0xEE], 1));
     assert_eq!(write_kind(0x68), (18, [0xEE; 2], 0xEEEE_EEEE));
-    let told = words::command_words(&Command::Metrics, 0);
-    assert_eq!(told, [0x44, 0, 0, 0, 0]);
-    assert_eq!(words::command_of(&told), Some(Command::Metrics));
+    let metrics = words::command_words(&Command::Metrics, 0);
+    assert_eq!(metrics, [0x44, 0, 0, 0, 0]);
+    assert_eq!(words::command_of(&metrics), Some(Command::Metrics));
     assert_eq!(words::command_of(&[0x68, 0, 0, 0, 0]), None);
 }
 
@@ -295,7 +295,7 @@ fn waiting_says_for_how_much() {
             });
         }
         bench.feed(bytes).expect("fed");
-        assert_eq!(bench.step(), Answer::Waiting { lacking });
+        assert_eq!(bench.take(), Answer::Waiting { lacking });
         let end = End::Waiting { lacking };
         assert_eq!(bench.run(9), Run { units: 0, end });
     }

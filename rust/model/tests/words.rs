@@ -9,6 +9,8 @@ const WRITE: usize = 4;
 const CONTROL: usize = 6;
 const DRAW: usize = 7;
 const VCD_0: usize = 13;
+const BASE_12: usize = 39 + 12;
+const STRIDE_12: usize = 55 + 12;
 
 /// What outputs hold before a call.
 const BEFORE: u32 = 0xEEEE_EEEE;
@@ -55,8 +57,19 @@ impl Bench {
         words::feed(&mut self.state, &mut self.ring, bytes)
     }
 
-    fn step(&mut self) -> u32 {
-        words::step(
+    fn look(&mut self) -> u32 {
+        words::look(
+            &self.state,
+            &self.ring,
+            &self.xf,
+            &self.vertex,
+            &mut self.unit,
+            &mut self.lacking,
+        )
+    }
+
+    fn take(&mut self) -> u32 {
+        words::take(
             &mut self.state,
             &self.ring,
             &mut self.xf,
@@ -64,6 +77,18 @@ impl Bench {
             &mut self.unit,
             &mut self.lacking,
         )
+    }
+
+    /// The number and the bytes lacking of a take; a look before it tells the
+    /// same, and leaves the state words.
+    fn look_and_take(&mut self) -> (u32, u32) {
+        let (state, lacking) = (self.state, self.lacking);
+        let seen = (self.look(), self.lacking);
+        assert_eq!(self.state, state);
+        self.lacking = lacking;
+        let taken = (self.take(), self.lacking);
+        assert_eq!(seen, taken);
+        taken
     }
 
     fn run(&mut self, limit: u32, report: &mut [u32; 2]) -> u32 {
@@ -78,11 +103,11 @@ impl Bench {
     }
 }
 
-/// A step and a run by 1, without a change but of the run's report.
+/// A look, a take and a run by 1, without a change but of the run's report.
 fn refused_by_1(changes: &[(usize, u32)]) {
     let mut bench = Bench::with(changes);
     let before = bench.state;
-    assert_eq!(bench.step(), 1, "{changes:X?}");
+    assert_eq!((bench.look(), bench.take()), (1, 1), "{changes:X?}");
     assert_eq!((bench.unit, bench.lacking), ([BEFORE; 6], BEFORE));
     let mut report = [BEFORE; 2];
     assert_eq!(bench.run(0, &mut report), 1);
@@ -116,31 +141,49 @@ fn words_that_their_fields_cannot_hold() {
 fn words_of_no_draw_are_not_looked_at() {
     let mut bench = Bench::with(&[(8, 9), (9, 0x109), (10, 0x1_0009)]);
     let before = bench.state;
-    assert_eq!(bench.step(), WAITING);
-    assert_eq!((bench.unit, bench.lacking), ([BEFORE; 6], 1));
+    assert_eq!(bench.look_and_take(), (WAITING, 1));
+    assert_eq!(bench.unit, [BEFORE; 6]);
     assert_eq!(bench.run(0, &mut [0; 2]), DONE);
     assert_eq!(bench.state, before);
     assert_eq!(bench.feed(&[0x48]), DONE);
+    assert_eq!(bench.look(), DONE);
     assert_eq!(bench.state[DRAW..=10], before[DRAW..=10]);
-    assert_eq!(bench.step(), DONE);
+    assert_eq!(bench.take(), DONE);
     assert_eq!(bench.state[DRAW..=10], [0; 4]);
     assert_eq!((bench.unit, bench.lacking), ([0x48, 0, 0, 0, 0, 1], 1));
 }
 
-/// "Where it waits, *lacking is how many bytes the unit lacks; else it stays."
+/// "Where it waits, *lacking is how many bytes are lacking; else it stays."
 #[test]
 fn bytes_lacking_are_told_by_waiting_alone() {
     let mut bench = Bench::new();
     assert_eq!(bench.feed(&[0x48, 0x61, 0x41]), DONE);
-    assert_eq!((bench.step(), bench.lacking), (DONE, BEFORE));
-    assert_eq!((bench.step(), bench.lacking), (WAITING, 3));
+    assert_eq!(bench.look_and_take(), (DONE, BEFORE));
+    assert_eq!(bench.look_and_take(), (WAITING, 3));
     assert_eq!(bench.feed(&[0, 0, 5, 0x02]), DONE);
-    assert_eq!((bench.step(), bench.lacking), (DONE, 3));
-    assert_eq!((bench.step(), bench.lacking), (6, 3));
+    assert_eq!(bench.look_and_take(), (DONE, 3));
+    assert_eq!(bench.look_and_take(), (6, 3));
     bench.state[CONTROL] = 0;
-    assert_eq!((bench.step(), bench.lacking), (4, 3));
+    assert_eq!(bench.look_and_take(), (4, 3));
     let mut report = [BEFORE; 2];
     assert_eq!((bench.run(1, &mut report), report), (4, [0, 0]));
+}
+
+/// "unit tells the command's five words, an indexed load's memory address among
+/// them, and how many bytes the unit has"
+#[test]
+fn a_look_tells_the_words_of_the_unit() {
+    let mut bench = Bench::with(&[(BASE_12, 0x1000), (STRIDE_12, 0x40)]);
+    assert_eq!(bench.feed(&[0x20, 0x00, 0x03, 0xB0, 0x00]), DONE);
+    let indexed = [0x20, 3, 12, 0, 0x10C0, 5];
+    assert_eq!((bench.look(), bench.unit), (DONE, indexed));
+    bench.unit = [BEFORE; 6];
+    assert_eq!((bench.take(), bench.unit), (DONE, indexed));
+    // A look that waits, or is refused, tells none.
+    bench.unit = [BEFORE; 6];
+    assert_eq!((bench.look(), bench.unit), (WAITING, [BEFORE; 6]));
+    assert_eq!(bench.feed(&[0x68]), DONE);
+    assert_eq!((bench.look(), bench.unit), (6, [BEFORE; 6]));
 }
 
 #[test]

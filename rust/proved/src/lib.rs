@@ -31,7 +31,18 @@ mod c {
             bytes: *const u8,
             bytes_len: usize,
         ) -> u32;
-        pub fn duckhammock_step(
+        pub fn duckhammock_look(
+            state: *const u32,
+            ring: *const u8,
+            ring_len: usize,
+            xf: *const u32,
+            xf_len: usize,
+            vertex: *const u8,
+            vertex_len: usize,
+            unit: *mut u32,
+            lacking: *mut u32,
+        ) -> u32;
+        pub fn duckhammock_take(
             state: *mut u32,
             ring: *const u8,
             ring_len: usize,
@@ -167,8 +178,34 @@ pub fn feed(state: &mut StateWords, ring: &mut [u8], bytes: &[u8]) -> u32 {
     }
 }
 
-/// `lacking` is written only where the step waits.
-pub fn step(
+/// `unit` is written only where there is one, `lacking` only where the look waits.
+pub fn look(
+    state: &StateWords,
+    ring: &[u8],
+    xf: &[u32],
+    vertex: &[u8],
+    unit: &mut UnitWords,
+    lacking: &mut u32,
+) -> u32 {
+    // SAFETY: the last two overlap nothing, the others are not written; each is
+    // lent for the call with its own length.
+    unsafe {
+        c::duckhammock_look(
+            state.as_ptr(),
+            place(ring, &0),
+            ring.len(),
+            place(xf, &0),
+            xf.len(),
+            place(vertex, &0),
+            vertex.len(),
+            unit.as_mut_ptr(),
+            lacking,
+        )
+    }
+}
+
+/// `unit` is written only where there is one, `lacking` only where the take waits.
+pub fn take(
     state: &mut StateWords,
     ring: &[u8],
     xf: &mut [u32],
@@ -180,7 +217,7 @@ pub fn step(
     // SAFETY: six places that don't overlap, each lent for the call with its
     // own length.
     unsafe {
-        c::duckhammock_step(
+        c::duckhammock_take(
             state.as_mut_ptr(),
             place(ring, &0),
             ring.len(),

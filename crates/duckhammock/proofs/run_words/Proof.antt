@@ -1,4 +1,4 @@
--- `duckhammock::run_words` meets its contract: as of a step.
+-- `duckhammock::run_words` meets its contract: as of a taking.
 use mathlib.Core.List.{List}
 use Prim.Native.Nat.{ℕ}
 use Rattle.processor.specs.State.{stateOf}

@@ -1,4 +1,4 @@
--- `running::run` meets its contract: past the gate it is the steps, and the limit is cut to the most.
+-- `running::run` meets its contract: past the gate it is the takings, and the limit is cut to the most.
 use borrow.Author.Needs.{needs}
 use mathlib.Core.Path.{sym, ap, _∙_}
 use Rattle.running.proofs.Runs.{run-refused, run-taken}

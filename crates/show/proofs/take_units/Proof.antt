@@ -11,14 +11,14 @@ Inv-loop state₀ ring xf₀ vertex₀ last₀ turns₀ state xf vertex last tur
 abbrev μ-loop : tie.MeasureT-loop
 μ-loop state₀ ring xf₀ vertex₀ last₀ turns₀ state xf vertex last turns = turns
 
-step-requires : tie.Need-step-requires Inv-loop μ-loop
-step-requires c κs = search needs
+take-unit-requires : tie.Need-take-unit-requires Inv-loop μ-loop
+take-unit-requires c κs = search needs
 
 loop-holds : tie.Need-loop-holds Inv-loop μ-loop
 loop-holds c = search needs
 
-step-requires-2 : tie.Need-step-requires-2 Inv-loop μ-loop
-step-requires-2 c κs = search needs
+take-unit-requires-2 : tie.Need-take-unit-requires-2 Inv-loop μ-loop
+take-unit-requires-2 c κs = search needs
 
 sub-turns : tie.Need-sub-turns Inv-loop μ-loop
 sub-turns c = search needs
@@ -62,9 +62,9 @@ take-units-spec =
     (tie.spec
     Inv-loop
     μ-loop
-    step-requires
+    take-unit-requires
     loop-holds
-    step-requires-2
+    take-unit-requires-2
     sub-turns
     loop-less
     loop-again

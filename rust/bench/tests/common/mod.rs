@@ -33,7 +33,7 @@ impl Side for Hand {
         hand::feed(state, ring, bytes)
     }
 
-    fn step(
+    fn look(
         &self,
         state: &mut StateWords,
         ring: &[u8],
@@ -42,7 +42,19 @@ impl Side for Hand {
         unit: &mut UnitWords,
         lacking: &mut u32,
     ) -> u32 {
-        hand::step(state, ring, xf, vertex, unit, lacking)
+        hand::look(state, ring, xf, vertex, unit, lacking)
+    }
+
+    fn take(
+        &self,
+        state: &mut StateWords,
+        ring: &[u8],
+        xf: &mut [u32],
+        vertex: &mut [u8],
+        unit: &mut UnitWords,
+        lacking: &mut u32,
+    ) -> u32 {
+        hand::take(state, ring, xf, vertex, unit, lacking)
     }
 
     fn run(

@@ -3,14 +3,16 @@
 use crate::duo::Duo;
 use crate::formats::{bad_vat, good_format, good_vat, good_vcd, length_of, vertex_bytes};
 use crate::random::Random;
-use crate::stream::{look, open_ring, open_ring_of, play, set_vat, Pace};
+use crate::stream::{
+    open_ring, open_ring_of, play, set_vat, sometimes_look, sometimes_read, take_one, Pace,
+};
 use crate::units::Units;
 use crate::world::word;
 use model::words::FormatWords;
 use model::CpRegisters;
 
-/// Steps within an open draw while its registers change: 9 and 10 without any
-/// byte, waiting, vertices.
+/// Looks and takes within an open draw while its registers change: 9 and 10
+/// without any byte, waiting, vertices.
 pub fn open_draw(duo: &mut Duo, random: &mut Random) {
     duo.scenario("open draw");
     open_ring(duo, random);
@@ -33,13 +35,14 @@ pub fn open_draw(duo: &mut Duo, random: &mut Random) {
         duo.poke(word::VCD_0, vcd[0]);
         duo.poke(word::VCD_1, vcd[1]);
         set_vat(duo, format as usize, &vat);
-        duo.step();
+        take_one(duo, random);
         duo.run(2);
         let length = random.below(131) as usize;
         duo.feed(&vertex_bytes(random, length));
-        duo.step();
+        take_one(duo, random);
+        sometimes_look(duo, random);
         duo.run(random.below(3));
-        look(duo, random);
+        sometimes_read(duo, random);
     }
 }
 

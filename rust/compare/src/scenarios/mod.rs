@@ -38,7 +38,7 @@ pub fn fixed(duo: &mut Duo) {
 
 /// One scenario by chance.
 pub fn by_chance(duo: &mut Duo, random: &mut Random) {
-    match random.below(44) {
+    match random.below(45) {
         0..=3 => streams::stream(duo, random),
         4 => streams::runs(duo, random),
         5..=8 => streams::mutated(duo, random),
@@ -56,7 +56,8 @@ pub fn by_chance(duo: &mut Duo, random: &mut Random) {
         39 => vertices::normals(duo, random),
         40 => streams::loaded(duo, random),
         41 => formats_between_draws::stream(duo, random),
-        42 => match random.below(8) {
+        42 => streams::judged(duo, random),
+        43 => match random.below(8) {
             0 => formats_between_draws::each_address(duo, random),
             1 => cuts::zeros(duo, random),
             2 => cuts::xf_ends(duo, random),

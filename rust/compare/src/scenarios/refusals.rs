@@ -55,14 +55,15 @@ fn probe(duo: &mut Duo) {
         duo.read(offset);
     }
     duo.feed(&[0x00, 0x00]);
+    duo.look();
     duo.run(0);
-    duo.step();
+    duo.look_and_take();
     duo.run(1);
     duo.write(0x02C, 0x1234);
     duo.write(0x002, 0xFFFF);
 }
 
-/// 1, 4 and 5 of feed, step, run, count and status.
+/// 1, 4 and 5 of feed, look, take, run, count and status.
 fn of_state(duo: &mut Duo) {
     probe_each(
         duo,
@@ -142,7 +143,7 @@ fn of_lent_lengths(duo: &mut Duo) {
     }
 }
 
-/// 6 to 10 of step and run, each byte by byte.
+/// 6 to 10 of look, take and run, each byte by byte.
 fn of_units(duo: &mut Duo) {
     let bad_position = (word::VAT, 5 << 1);
     let draw = [(7, 1), (8, 0), (9, 0), (10, 1)];
@@ -165,11 +166,11 @@ fn of_units(duo: &mut Duo) {
         for &(index, value) in changes {
             duo.poke(index, value);
         }
-        duo.step();
+        duo.look_and_take();
         duo.run(1);
         for &byte in bytes {
             duo.feed(&[byte]);
-            duo.step();
+            duo.look_and_take();
             duo.run(1);
         }
     }

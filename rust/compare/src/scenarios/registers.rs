@@ -72,16 +72,16 @@ pub fn first_bytes(duo: &mut Duo, random: &mut Random) {
         for address in 0..=255 {
             sweep_one(duo, &ring, &[0x08, address]);
             duo.feed(&random.word().to_be_bytes());
-            duo.step();
+            duo.look_and_take();
         }
     }
 }
 
-/// A few bytes in an empty ring, stepped; no draw is left open.
+/// A few bytes in an empty ring, looked at and taken; no draw is left open.
 fn sweep_one(duo: &mut Duo, ring: &Ring, bytes: &[u8]) {
     duo.poke(word::WRITE, ring.pointer);
     duo.poke(word::READ, ring.pointer);
     duo.feed(bytes);
-    duo.step();
+    duo.look_and_take();
     duo.poke(word::DRAW_OPEN, 0);
 }

@@ -2,7 +2,7 @@
 
 use crate::duo::Duo;
 use crate::random::Random;
-use crate::stream::{open_ring, scatter_registers, Ring};
+use crate::stream::{open_ring, scatter_registers, take_one, Ring};
 use crate::units::Units;
 use crate::world::word;
 
@@ -76,7 +76,8 @@ fn probe(duo: &mut Duo, random: &mut Random, ring: &Ring) {
     if random.once_in(8) {
         duo.feed(&vec![0; ring.size as usize]);
     }
-    duo.step();
+    take_one(duo, random);
+    duo.look();
     duo.run(0);
     duo.run(random.between(1, 5));
     if random.once_in(6) {

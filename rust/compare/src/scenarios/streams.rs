@@ -2,8 +2,11 @@
 
 use crate::duo::Duo;
 use crate::random::Random;
-use crate::stream::{load, look, open_ring, open_ring_of, play, scatter_registers, Pace, Ring};
+use crate::stream::{
+    load, open_ring, open_ring_of, play, scatter_registers, skip, take_one, take_some, Pace, Ring,
+};
 use crate::units::{bad_opcode, Units};
+use model::words::{DONE, WAITING};
 
 /// Units that mean something; sometimes the last is refused.
 pub fn stream(duo: &mut Duo, random: &mut Random) {
@@ -24,7 +27,7 @@ pub fn stream(duo: &mut Duo, random: &mut Random) {
         units.add_refused(random);
         play(duo, random, &units.bytes(), Pace::ByteByByte);
         duo.feed(&[0]);
-        duo.step();
+        take_one(duo, random);
         duo.run(3);
     }
 }
@@ -60,6 +63,45 @@ pub fn loaded(duo: &mut Duo, random: &mut Random) {
     load(duo, random, &units.bytes());
 }
 
+/// A caller who looks at every unit before it is taken: some are looked at again,
+/// with more bytes fed or without, and some are passed by, as many bytes as the
+/// look tells.
+pub fn judged(duo: &mut Duo, random: &mut Random) {
+    duo.scenario("looks before takes");
+    let ring = open_ring(duo, random);
+    let mut units = Units::new(scatter_registers(duo, random));
+    for _ in 0..random.between(1, 20) {
+        units.add(random);
+    }
+    if random.once_in(3) {
+        units.add_refused(random);
+    }
+    let bytes = units.bytes();
+    let mut rest = &bytes[..];
+    while duo.fault().is_none() {
+        match duo.look() {
+            (DONE, [.., length], _) => match random.below(8) {
+                0 => skip(duo, &ring, length),
+                1 => rest = feed_some(duo, random, rest),
+                _ => {
+                    duo.take();
+                }
+            },
+            (WAITING, ..) if !rest.is_empty() => rest = feed_some(duo, random, rest),
+            _ => return,
+        }
+    }
+}
+
+/// Feeds some of the bytes, as far as there is room; the rest.
+fn feed_some<'a>(duo: &mut Duo, random: &mut Random, bytes: &'a [u8]) -> &'a [u8] {
+    let most = duo.world().room().min(bytes.len() as u32);
+    let piece = random.between(1, 90).min(most);
+    let (now, later) = bytes.split_at(piece as usize);
+    duo.feed(now);
+    later
+}
+
 /// Units with bytes changed, put in or left out, and opcodes that are none
 /// between them; feeds may be refused.
 pub fn mutated(duo: &mut Duo, random: &mut Random) {
@@ -82,14 +124,7 @@ pub fn mutated(duo: &mut Duo, random: &mut Random) {
         let (piece, after) = rest.split_at(random.between(1, 90).min(rest.len() as u32) as usize);
         duo.feed(piece);
         rest = after;
-        for _ in 0..random.below(4) {
-            if random.once_in(3) {
-                duo.run(random.below(20));
-            } else {
-                duo.step();
-            }
-        }
-        look(duo, random);
+        take_some(duo, random, 20);
         if random.once_in(3) {
             skip_some(duo, random, &ring);
         }

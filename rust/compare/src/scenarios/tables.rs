@@ -34,9 +34,9 @@ fn cp_addresses(duo: &mut Duo) {
     ] {
         good_bench(duo);
         duo.feed(&[0x08, address]);
-        duo.step();
+        duo.look_and_take();
         duo.feed(&[0xFF; 4]);
-        duo.step();
+        duo.look_and_take();
     }
 }
 
@@ -46,7 +46,7 @@ fn units(duo: &mut Duo) {
     duo.feed(&[0x40, 1, 2, 3, 4, 5, 6, 7, 8, 0x00, 0x48, 0x44, 0x80, 0, 1]);
     duo.feed(&[9, 9]);
     for _ in 0..6 {
-        duo.step();
+        duo.look_and_take();
     }
 }
 
@@ -119,7 +119,7 @@ fn arrays(duo: &mut Duo) {
         duo.poke(word::BASES + 12 + array, 0x100_0000 * array as u32 + 5);
         duo.poke(word::STRIDES + 12 + array, 16 * array as u32 + 192);
         duo.feed(&[0x20 + 8 * array as u8, 0x12, 0x34, 0x9A, 0xBC]);
-        duo.step();
+        duo.look_and_take();
     }
 }
 

@@ -4,7 +4,7 @@ use crate::call::Patch;
 use crate::duo::Duo;
 use crate::random::Random;
 use crate::scenarios::registers::any_offset;
-use crate::stream::{any_limit, open_ring};
+use crate::stream::{any_limit, open_ring, sometimes_look, take_one};
 use crate::world::word;
 use model::words::FormatWords;
 
@@ -39,6 +39,7 @@ fn any_state(duo: &mut Duo, random: &mut Random) {
 fn take(duo: &mut Duo, random: &mut Random) {
     match random.below(4) {
         0 => {
+            sometimes_look(duo, random);
             duo.run(any_limit(random));
         }
         1 => {
@@ -53,7 +54,7 @@ fn take(duo: &mut Duo, random: &mut Random) {
             duo.feed(&bytes);
         }
         _ => {
-            duo.step();
+            take_one(duo, random);
         }
     }
 }

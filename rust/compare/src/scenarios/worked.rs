@@ -73,17 +73,17 @@ fn units(duo: &mut Duo) {
     duo.poke(word::VCD_0, 0x200);
     for unit in units {
         duo.feed(unit);
-        duo.step();
+        duo.look_and_take();
     }
     duo.poke(word::BP + 0x41, 0x12_3450);
     duo.poke(word::BP + 0xFE, 0x00_000F);
     duo.feed(&[0x61, 0x41, 0x00, 0x00, 0xA5]);
-    duo.step();
+    duo.look_and_take();
     duo.feed(&[0; 255]);
     duo.feed(&[0]);
     duo.run(65_535);
     duo.feed(&[0x10, 0x00, 0x01, 0x10, 0x57]);
-    duo.step();
+    duo.look_and_take();
 }
 
 fn patches(duo: &mut Duo) {

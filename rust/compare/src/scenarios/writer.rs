@@ -2,7 +2,7 @@
 
 use crate::duo::Duo;
 use crate::random::Random;
-use crate::stream::{open_ring, scatter_registers};
+use crate::stream::{open_ring, scatter_registers, take_one};
 use crate::units::bad_cp_address;
 use model::words::CommandWords;
 
@@ -33,7 +33,7 @@ pub fn writer(duo: &mut Duo, random: &mut Random) {
     }
 }
 
-/// What was written is fed and stepped.
+/// What was written is fed and taken.
 pub fn read_back(duo: &mut Duo, random: &mut Random) {
     duo.scenario("written commands read back");
     open_ring(duo, random);
@@ -43,9 +43,9 @@ pub fn read_back(duo: &mut Duo, random: &mut Random) {
         let (_, bytes) = duo.write_command(command, &words, 80);
         let (first, rest) = bytes.split_at(random.below(bytes.len() as u32 + 1) as usize);
         duo.feed(first);
-        duo.step();
+        take_one(duo, random);
         duo.feed(rest);
-        duo.step();
+        take_one(duo, random);
     }
 }
 

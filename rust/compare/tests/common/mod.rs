@@ -1,6 +1,7 @@
 //! A side that is the twin but for one fault, and the list of faults.
 
-mod steps;
+mod looks;
+mod takes;
 
 use compare::side::{Side, Twin};
 use model::words::{
@@ -13,8 +14,8 @@ macro_rules! faults {
     ($($fault:ident,)*) => {
         #[derive(Clone, Copy, Debug, PartialEq, Eq)]
         pub enum Fault {
-            /// None: a run is made of steps, as for the faults of runs.
-            OnlySteps,
+            /// None: a run is made of takes, as for the faults of runs.
+            OnlyTakes,
             $($fault,)*
         }
 
@@ -109,6 +110,24 @@ faults! {
     OldMetricsWritten,
     OldMetricsToWriteGives6,
     MetricsWrittenAsOld,
+    LookTakes,
+    LookMovesThePointer,
+    LookStoresXfWords,
+    LookCopiesVertex,
+    LookClearsStaleDraw,
+    LookShowsNoOperation,
+    LookTellsAnotherLength,
+    LookWithoutAddress,
+    LookPastTheDraw,
+    LookWithout2,
+    LookWithout3,
+    LookWithout4And5,
+    LookGives4Before2,
+    LookAwaitsTheUnit,
+    LookLacksOne,
+    LookUnitZeroed,
+    LookLackingZeroed,
+    TakeNamesAnother,
     KeptOverVcd0,
     KeptOverVcd1,
     KeptOverVat0,
@@ -287,11 +306,12 @@ impl Faulty {
             Fault::AddressWithoutIndex if kind & !0x18 == 0x20 => unit[4] = 0,
             Fault::XfWordBeforeIt if kind == LOAD_XF && b != 0 => xf[b as usize - 1] ^= 1,
             Fault::MetricsToldAsOld if kind == METRICS => unit[0] = OLD_METRICS.into(),
+            Fault::TakeNamesAnother if kind == LOAD_BP => unit[1] ^= 1,
             _ => {}
         }
     }
 
-    /// What is wrong with the bytes lacking of a step that waits.
+    /// What is wrong with the bytes lacking of a take that waits.
     fn spoil_lacking(&self, state: &StateWords, ring: &[u8], lacking: &mut u32) {
         let count = count_of(state);
         let begun = count != 0 && state[OPEN] == 0;
@@ -314,7 +334,7 @@ impl Faulty {
         }
     }
 
-    /// What is wrong with a step of the metrics opcodes; the answer.
+    /// What is wrong with a take of the metrics opcodes; the answer.
     fn spoil_metrics(
         &self,
         state: &mut StateWords,
@@ -443,7 +463,27 @@ impl Side for Faulty {
         answer
     }
 
-    fn step(
+    fn look(
+        &self,
+        state: &mut StateWords,
+        ring: &[u8],
+        xf: &mut [u32],
+        vertex: &mut [u8],
+        unit: &mut UnitWords,
+        lacking: &mut u32,
+    ) -> u32 {
+        let mut look = looks::Look {
+            state,
+            ring,
+            xf,
+            vertex,
+            unit,
+            lacking,
+        };
+        look.make(self.0)
+    }
+
+    fn take(
         &self,
         state: &mut StateWords,
         ring: &[u8],
@@ -458,7 +498,7 @@ impl Side for Faulty {
         let stale = [state[8], state[9], state[10]];
         let (was, told) = (*state, *unit);
         let mut seen = self.seen(state);
-        let answer = Twin.step(&mut seen, ring, xf, vertex, unit, lacking);
+        let answer = Twin.take(&mut seen, ring, xf, vertex, unit, lacking);
         if answer == DONE {
             *state = seen;
             self.spoil_unit(state, xf, unit);
@@ -489,8 +529,8 @@ impl Side for Faulty {
         limit: u32,
         report: &mut ReportWords,
     ) -> u32 {
-        if steps::makes(self.0) {
-            return steps::run(self.0, state, ring, xf, vertex, limit, report);
+        if takes::makes(self.0) {
+            return takes::run(self.0, state, ring, xf, vertex, limit, report);
         }
         let was = *report;
         let limit = self.seen_limit(limit);

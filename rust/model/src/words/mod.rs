@@ -1,8 +1,8 @@
 //! The calls of `include/duckhammock.h` over the same words and slices, written
 //! from that header and document 01. Each gives the answer's number. A refused
-//! call leaves what was lent as it was, a waiting step all but the bytes lacking;
-//! a run keeps the units before the one that waits or is refused, and its report
-//! is told whatever the answer.
+//! call leaves what was lent as it was, a waiting look or take all but the bytes
+//! lacking; a run keeps the units before the one that waits or is refused, and its
+//! report is told whatever the answer.
 
 mod command;
 mod state;
@@ -14,7 +14,7 @@ pub use state::{state_of, state_words};
 use crate::{
     check_sheet, decode as decode_attribute, layout, merge_sheets, raw_words as raw_components,
     write_command as put_command, write_sheet, Answer, End, Memory, Refusal, Sheet, SheetMut,
-    State, VertexFormat, ATTRIBUTES,
+    State, VertexFormat, View, ATTRIBUTES,
 };
 use state::{bench_of_registers, CONTROL, WRITE_POINTER};
 use value::value_words;
@@ -109,8 +109,43 @@ pub fn feed(state: &mut StateWords, ring: &mut [u8], bytes: &[u8]) -> u32 {
     number(&answer)
 }
 
-/// "Where it waits, *lacking is how many bytes the unit lacks; else it stays."
-pub fn step(
+/// Tells the unit, or where it waits the bytes lacking; the answer's number.
+fn tell_unit(answer: Answer, unit: &mut UnitWords, lacking: &mut u32) -> u32 {
+    match answer {
+        Answer::Unit {
+            command,
+            memory_address,
+            length,
+        } => {
+            let [kind, a, b, c, d] = command_words(&command, memory_address);
+            *unit = [kind, a, b, c, d, length];
+            DONE
+        }
+        Answer::Waiting { lacking: bytes } => {
+            *lacking = bytes;
+            WAITING
+        }
+        Answer::Refused(refusal) => refusal.number().into(),
+    }
+}
+
+/// "Nothing but these two changes": the unit and the bytes lacking.
+pub fn look(
+    state: &StateWords,
+    ring: &[u8],
+    xf: &[u32],
+    vertex: &[u8],
+    unit: &mut UnitWords,
+    lacking: &mut u32,
+) -> u32 {
+    let Some(bench) = state_of(state) else {
+        return Refusal::BrokenState.number().into();
+    };
+    tell_unit(bench.look(&View { ring, xf, vertex }), unit, lacking)
+}
+
+/// "Where it waits, *lacking is how many bytes are lacking; else it stays."
+pub fn take(
     state: &mut StateWords,
     ring: &[u8],
     xf: &mut [u32],
@@ -121,24 +156,12 @@ pub fn step(
     let Some(mut bench) = state_of(state) else {
         return Refusal::BrokenState.number().into();
     };
-    let pending = bench.window.count().unwrap_or(0);
-    match bench.step(&mut Memory { ring, xf, vertex }) {
-        Answer::Done {
-            command,
-            memory_address,
-        } => {
-            let left = bench.window.count().unwrap_or(0);
-            let [kind, a, b, c, d] = command_words(&command, memory_address);
-            *unit = [kind, a, b, c, d, pending - left];
-            *state = state_words(&bench);
-            DONE
-        }
-        Answer::Waiting { lacking: bytes } => {
-            *lacking = bytes;
-            WAITING
-        }
-        Answer::Refused(refusal) => refusal.number().into(),
+    let answer = bench.take(&mut Memory { ring, xf, vertex });
+    let number = tell_unit(answer, unit, lacking);
+    if number == DONE {
+        *state = state_words(&bench);
     }
+    number
 }
 
 /// Where no unit was done, the state words stay.

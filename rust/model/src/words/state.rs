@@ -48,7 +48,7 @@ pub(super) fn bench_of_registers(words: &StateWords) -> State {
 }
 
 /// The state that the words say; none where a word does not fit its field,
-/// which step and run refuse by 1.
+/// which look, take and run refuse by 1.
 pub fn state_of(words: &StateWords) -> Option<State> {
     Some(State {
         window: window_of(words),

@@ -1,8 +1,7 @@
 -- `processor::take_at` meets its contract: what the look finds decides; a unit is executed and skipped, and else nothing changes.
 use borrow.Author.Needs.{needs}
-use mathlib.Core.Path.{_≡_, sym, _∙_}
-use mathlib.Core.Path.{ap}
-use Rattle.processor.proofs.Found.{unit-most, takes-unit, takes-waiting, takes-refused}
+use mathlib.Core.Path.{_≡_, sym, ap, _∙_}
+use Rattle.processor.proofs.Found.{seen-by, seen-most, takes-unit, takes-waiting, takes-refused}
 use Rattle.processor.specs.Cursor.{seen}
 use Rattle.command.specs.Command.{meaning}
 use Rattle.processor.proofs.taking.take_at.Statement.{statement}
@@ -14,8 +13,7 @@ start-of l = l .before .before .before .before .before .before .before
 -- what the look finds is what the cursor's bytes begin with
 found-at : (l : tie.After-look) → meaning (l .look .result)
     ≡ seen (start-of l .args .cursor) (start-of l .args .ring .now) (start-of l .args .cp .now) (start-of l .args .draw)
-unfolding seen
-found-at l = rw (l .before .before .peek .ensures) at (l .look .ensures)
+found-at l = seen-by _ _ _ _ (l .before .before .peek .ensures) (l .look .ensures)
 
 peek-requires : tie.Need-peek-requires
 peek-requires c κs = search needs
@@ -28,8 +26,8 @@ enum-known-next c = search needs
 
 execute-requires : tie.Need-execute-requires
 execute-requires c κs =
-    let b = c .before .before .before .before .before in
-    unit-most _ _ _ _ _ _ _ (rw (b .next .given .1) at (b .before .before .look .ensures))
+    let n = c .before .before .before .before .before in
+    seen-most _ _ _ _ _ _ _ (sym (ap meaning (n .next .given .1)) ∙ found-at (n .before .before))
 
 skip-requires : tie.Need-skip-requires
 skip-requires c κs = search needs

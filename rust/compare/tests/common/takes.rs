@@ -1,4 +1,4 @@
-//! A run made of the twin's steps, with one fault of those that a side could
+//! A run made of the twin's takes, with one fault of those that a side could
 //! have that takes many units at once.
 
 use super::{
@@ -6,7 +6,7 @@ use super::{
     READ_POINTER, START, VERTEX, WRITE_POINTER,
 };
 use compare::side::{Side, Twin};
-use model::words::{FormatWords, ReportWords, StateWords, UnitWords, DONE, WAITING};
+use model::words::{self, FormatWords, ReportWords, StateWords, UnitWords, DONE, WAITING};
 
 const DRAW: u32 = 0x80;
 const MOST_UNITS: u32 = 65_535;
@@ -14,7 +14,7 @@ const XF_WORDS: usize = 4184;
 
 /// Whether a fault is one of these runs, or none.
 pub fn makes(fault: Fault) -> bool {
-    fault == Fault::OnlySteps || fault as u32 >= Fault::KeptOverVcd0 as u32
+    fault == Fault::OnlyTakes || fault as u32 >= Fault::KeptOverVcd0 as u32
 }
 
 pub fn run(
@@ -32,7 +32,7 @@ pub fn run(
         return answer;
     }
     let before = vertex.to_vec();
-    let mut steps = Steps {
+    let mut takes = Takes {
         fault,
         before,
         state,
@@ -47,13 +47,13 @@ pub fn run(
         vertices: 0,
         kept: [None; 8],
     };
-    let answer = steps.take(limit.min(MOST_UNITS));
-    steps.end(answer);
-    *report = [steps.units - steps.short, steps.lacking];
+    let answer = takes.take_all(limit.min(MOST_UNITS));
+    takes.end(answer);
+    *report = [takes.units - takes.short, takes.lacking];
     answer
 }
 
-struct Steps<'a> {
+struct Takes<'a> {
     fault: Fault,
     /// The vertex buffer before this run.
     before: Vec<u8>,
@@ -81,7 +81,7 @@ fn places(format: usize) -> [usize; 5] {
     [13, 14, vat, vat + 1, vat + 2]
 }
 
-impl Steps<'_> {
+impl Takes<'_> {
     fn is(&self, fault: Fault) -> bool {
         self.fault == fault
     }
@@ -112,7 +112,7 @@ impl Steps<'_> {
         DONE
     }
 
-    fn take(&mut self, limit: u32) -> u32 {
+    fn take_all(&mut self, limit: u32) -> u32 {
         while self.units < limit {
             let answer = self.take_one();
             if answer != DONE {
@@ -137,7 +137,7 @@ impl Steps<'_> {
     fn take_one(&mut self) -> u32 {
         let answer = match self.take_wrongly() {
             Some(answer) => answer,
-            None => self.step(),
+            None => self.take(),
         };
         if answer == DONE {
             self.units += 1;
@@ -187,22 +187,20 @@ impl Steps<'_> {
 
     /// The bytes of a unit past the ring's end that are there, but not seen.
     fn unseen(&self) -> Option<u32> {
-        let (mut state, mut xf, mut vertex) = (*self.state, self.xf.to_vec(), self.vertex.to_vec());
         let (mut unit, mut lacking) = ([0; 6], 0);
-        let answer = Twin.step(
-            &mut state,
+        let answer = words::look(
+            self.state,
             self.ring,
-            &mut xf,
-            &mut vertex,
+            self.xf,
+            self.vertex,
             &mut unit,
             &mut lacking,
         );
-        let past = state[READ_POINTER] - state[START];
-        let over = answer == DONE && state[READ_POINTER] < self.state[READ_POINTER];
-        (over && past != 0).then_some(past)
+        let straight = self.state[END] - self.state[READ_POINTER];
+        (answer == DONE && unit[5] > straight).then(|| unit[5] - straight)
     }
 
-    fn step(&mut self) -> u32 {
+    fn take(&mut self) -> u32 {
         if self.is(Fault::UnitOverTheEndAwaited) {
             if let Some(lacking) = self.unseen() {
                 self.lacking = lacking;
@@ -212,7 +210,7 @@ impl Steps<'_> {
         let (was, held) = (*self.state, self.vertex.to_vec());
         let drawn = self.draw_as_kept();
         let mut unit = [0; 6];
-        let answer = Twin.step(
+        let answer = Twin.take(
             self.state,
             self.ring,
             self.xf,

@@ -1,4 +1,4 @@
--- `processor::step` meets its contract: past the gate it is one unit of the queue, and the cursor closed is the fifo after it.
+-- `processor::take` meets its contract: past the gate it is one unit of the queue, and the cursor closed is the fifo after it.
 use borrow.Author.Needs.{needs}
 use mathlib.Core.Path.{sym, ap, _∙_}
 use Rattle.processor.proofs.Stepping.{steps-refused, steps-taken}
@@ -6,8 +6,8 @@ use Rattle.processor.proofs.Bridge.{takes-opened}
 use Rattle.processor.proofs.Passing.{gate-passes, passed}
 use Rattle.processor.specs.Gate.{meaningOfGate}
 use Rattle.processor.specs.State.{State, stateOf}
-use Rattle.processor.proofs.step.Statement.{statement}
-use Rattle.processor.proofs.step.Tie as tie
+use Rattle.processor.proofs.taking.take.Statement.{statement}
+use Rattle.processor.proofs.taking.take.Tie as tie
 
 pass-requires : tie.Need-pass-requires
 pass-requires c κs = search needs
@@ -53,8 +53,8 @@ returns-2 c =
     let k = gate-passes s _ g in
     steps-taken _ s g (takes-opened _ s (k .ready) (o .open .ensures) (t .take-at .ensures)) (c .close .ensures)
 
-pub step-spec : {M : Type 1} → statement M
-step-spec =
+pub take-spec : {M : Type 1} → statement M
+take-spec =
     tie.close
     (tie.spec
     pass-requires
