@@ -71,7 +71,8 @@ pub record ToldAlike (p : ℕ) (shown : List ℕ) (lacks r : ℕ) (unit : List �
   pub lacking-is : p ≡ 255 → lacks ≡ lacking
 
 -- Document 02, L6: "Looking and then taking, with nothing between, names the same unit, and refusals and waiting are the same in both,
--- numbers and order" (proofs/Looks). The premises are the contracts of the two calls, as they stand, at one state: a look is lent it to read.
+-- numbers and order" (proofs/Looks). The premises are the contracts of the two calls, as they stand, at one state: a look is lent it to
+-- read.
 abbrev pub TellsAlike : Type 0
 TellsAlike =
     (ring : List ℕ) (s : State) (shown : List ℕ) (lacks p : ℕ) (shown' : List ℕ) (lacks' : ℕ) (lent : Lent) (unit : List ℕ) (lacking r : ℕ)
