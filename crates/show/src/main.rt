@@ -1,5 +1,8 @@
-// Shows a recorded stream of commands, from standard input, as text: a line for each unit, for the vertices of a draw one line, and last
-// what was counted and how it ended. Numbers of commands are hexadecimal, counts are decimal.
+// Shows a recorded stream of commands, from standard input, as text: a line for each unit, but one for a run of no-operations and one for
+// the vertices of a draw, each behind the byte offset where it begins; then what was counted and how it ended. Offsets, and what a command
+// carries, are hexadecimal, counts are decimal.
+mod lines;
+mod summary;
 mod tally;
 mod text;
 mod units;
@@ -14,23 +17,12 @@ fn start(state: &mut [u32; 327]) {
     duckhammock::duckhammock_write_register(state, 0x002, 1);
 }
 
-// Tells a unit that was done; false where the output is closed. A vertex is told where it was its draw's last.
-fn tell(state: &[u32; 327], unit: [u32; 6], tally: Tally) -> bool {
-    if unit[0] != units::VERTEX {
-        return units::tell(unit);
-    }
-    if state[7] == 0 {
-        return tally::tell_closed(tally, unit[5]);
-    }
-    true
-}
-
 // Takes the next unit and tells it.
 fn take_unit(
     state: &mut [u32; 327],
-    ring: &[u8],
-    xf: &mut [u32],
-    vertex: &mut [u8],
+    ring: &[u8; 65536],
+    xf: &mut [u32; 4184],
+    vertex: &mut [u8; 129],
     tally: Tally,
 ) -> Tally {
     let mut unit = [0u32; 6];
@@ -39,19 +31,15 @@ fn take_unit(
     if number != 0 {
         return tally::stop(tally, number, lacking);
     }
-    let mut next = tally::count(tally, unit);
-    next.number = 0;
-    let is_told = tell(state, unit, next);
-    next.goes_on = is_told;
-    next
+    lines::take(tally, unit, state[7] != 0)
 }
 
 // Units until one waits or is refused. The ring holds 65,535 bytes, and a unit has one at least.
 fn take_units(
     state: &mut [u32; 327],
-    ring: &[u8],
-    xf: &mut [u32],
-    vertex: &mut [u8],
+    ring: &[u8; 65536],
+    xf: &mut [u32; 4184],
+    vertex: &mut [u8; 129],
     tally: Tally,
 ) -> Tally {
     let mut last = take_unit(state, ring, xf, vertex, tally);
@@ -66,9 +54,9 @@ fn take_units(
 // Feeds a piece of the recording and takes its units.
 fn take_piece(
     state: &mut [u32; 327],
-    ring: &mut [u8],
-    xf: &mut [u32],
-    vertex: &mut [u8],
+    ring: &mut [u8; 65536],
+    xf: &mut [u32; 4184],
+    vertex: &mut [u8; 129],
     piece: &[u8],
     tally: Tally,
 ) -> Tally {
@@ -82,9 +70,9 @@ fn take_piece(
 // Reads a piece, of what length the input gives it, and takes it. No byte, or a read that fails, ends the input.
 fn read_piece(
     state: &mut [u32; 327],
-    ring: &mut [u8],
-    xf: &mut [u32],
-    vertex: &mut [u8],
+    ring: &mut [u8; 65536],
+    xf: &mut [u32; 4184],
+    vertex: &mut [u8; 129],
     tally: Tally,
 ) -> Tally {
     let mut piece = io::buffer();
@@ -97,7 +85,12 @@ fn read_piece(
 }
 
 // Nothing says that an input ends, so the loop counts its turns down, from a number that no input uses up.
-fn read_all(state: &mut [u32; 327], ring: &mut [u8], xf: &mut [u32], vertex: &mut [u8]) -> Tally {
+fn read_all(
+    state: &mut [u32; 327],
+    ring: &mut [u8; 65536],
+    xf: &mut [u32; 4184],
+    vertex: &mut [u8; 129],
+) -> Tally {
     let mut tally = tally::fresh();
     let mut turns = u64::MAX;
     while turns > 0 && tally.goes_on {
@@ -113,10 +106,8 @@ fn main() {
     let mut xf = [0u32; 4184];
     let mut vertex = [0u8; 129];
     start(&mut state);
+    let fresh = state;
+    text::send_text(b"start: fresh registers, no draw open");
     let tally = read_all(&mut state, &mut ring, &mut xf, &mut vertex);
-    let is_open = state[7] != 0;
-    if is_open {
-        tally::tell_open(tally, state[10]);
-    }
-    tally::tell(tally, !is_open && state[4] == state[5]);
+    summary::tell(tally, &fresh, &state, &ring);
 }

@@ -1,7 +1,5 @@
 // A line of text in a buffer: bytes are put at a place, and each function gives the place after them. What is past the end is dropped.
 use libc::STDOUT_FILENO;
-ghost use Prim.Native.Nat.{_≤_};
-ghost use Rattle.io.specs.Counts.{Counts};
 
 // Puts a byte.
 fn put_byte(out: &mut [u8; 120], at: usize, byte: u8) -> usize {
@@ -23,54 +21,36 @@ pub fn put(out: &mut [u8; 120], at: usize, text: &[u8]) -> usize {
     end
 }
 
-// The lowest digit in hexadecimal.
-fn hex_digit(n: u32) -> u8 {
-    if n % 16 < 10 {
-        return 48 + (n % 16) as u8;
+// A digit above 9 as the papers write it.
+fn capital(digit: u8) -> u8 {
+    if digit > 57 {
+        return digit - 32;
     }
-    55 + (n % 16) as u8
+    digit
 }
 
-// Puts the two lowest digits.
-fn put_two(out: &mut [u8; 120], at: usize, n: u32) -> usize {
-    let next = put_byte(out, at, hex_digit(n / 16));
-    put_byte(out, next, hex_digit(n))
+// Puts digits, in capitals.
+fn put_digits(out: &mut [u8; 120], at: usize, digits: &[u8]) -> usize {
+    let mut end = at;
+    let mut k: usize = 0;
+    while k < digits.len() {
+        end = put_byte(out, end, capital(digits[k]));
+        k += 1;
+    }
+    end
 }
 
-// Puts the four lowest digits.
-fn put_four(out: &mut [u8; 120], at: usize, n: u32) -> usize {
-    let next = put_two(out, at, n / 256);
-    put_two(out, next, n)
+// Puts a number in hexadecimal, with zeros in front up to `width` digits.
+fn put_wide(out: &mut [u8; 120], at: usize, n: u64, width: usize) -> usize {
+    let mut digits = [0u8; 16];
+    let k = io::hex(n, width, &mut digits);
+    put_digits(out, at, &digits[..k])
 }
 
-// Puts a name and a number's lowest digit in hexadecimal.
-pub fn put_hex1(out: &mut [u8; 120], at: usize, name: &[u8], n: u32) -> usize {
+// Puts a name, and a number so.
+pub fn put_hex(out: &mut [u8; 120], at: usize, name: &[u8], n: u32, width: usize) -> usize {
     let next = put(out, at, name);
-    put_byte(out, next, hex_digit(n))
-}
-
-// Two digits.
-pub fn put_hex2(out: &mut [u8; 120], at: usize, name: &[u8], n: u32) -> usize {
-    let next = put(out, at, name);
-    put_two(out, next, n)
-}
-
-// Four digits.
-pub fn put_hex4(out: &mut [u8; 120], at: usize, name: &[u8], n: u32) -> usize {
-    let next = put(out, at, name);
-    put_four(out, next, n)
-}
-
-// Six digits.
-pub fn put_hex6(out: &mut [u8; 120], at: usize, name: &[u8], n: u32) -> usize {
-    let next = put_hex2(out, at, name, n / 65536);
-    put_four(out, next, n)
-}
-
-// All eight digits.
-pub fn put_hex8(out: &mut [u8; 120], at: usize, name: &[u8], n: u32) -> usize {
-    let next = put_hex4(out, at, name, n / 65536);
-    put_four(out, next, n)
+    put_wide(out, next, n as u64, width)
 }
 
 // Puts a number in decimal.
@@ -89,24 +69,24 @@ pub fn put_count(out: &mut [u8; 120], at: usize, n: u64, one: &[u8], many: &[u8]
     put(out, next, many)
 }
 
-// The smaller of two numbers.
-fn least(a: usize, b: usize) -> usize
-    ensures { λ r. ⌜ (r ≤ a) × (r ≤ b) ⌝ }
-{
-    if a < b { a } else { b }
+// Begins the line of a place in the recording: its byte offset.
+pub fn begin(out: &mut [u8; 120], offset: u64) -> usize {
+    let at = put_wide(out, 0, offset, 8);
+    put(out, at, b"  ")
 }
 
-// How many of the first n bytes are there.
-fn first(n: usize, out: &[u8]) -> usize
-    ensures { λ r. ⌜ Counts r (now (out .entry)) ⌝ }
-{
-    least(n, out.len())
+// How long the line is, as `io::count` takes it.
+fn length(n: usize) -> isize {
+    if n < 120 {
+        return n as isize;
+    }
+    120
 }
 
 // Writes the first n bytes; false where the output is closed, here and wherever a line is sent.
 fn write_first(out: &[u8], n: usize) -> bool {
-    let n = first(n, out);
-    io::write_all(STDOUT_FILENO, &out[..n])
+    let k = io::count(length(n), out);
+    io::write_all(STDOUT_FILENO, &out[..k])
 }
 
 // Ends the line after its first n bytes and writes it.

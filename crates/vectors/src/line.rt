@@ -1,62 +1,15 @@
 // Lines of output.
 use libc::STDOUT_FILENO;
-ghost use Prim.Native.Nat.{_≤_};
 
-// The place of the first digit that is not a leading zero, of ten.
-fn first_digit(n: u32) -> usize
-    ensures { λ r. ⌜ r ≤ 9 ⌝ }
-{
-    if n < 10 {
-        return 9;
-    }
-    if n < 100 {
-        return 8;
-    }
-    if n < 1000 {
-        return 7;
-    }
-    if n < 10_000 {
-        return 6;
-    }
-    if n < 100_000 {
-        return 5;
-    }
-    if n < 1_000_000 {
-        return 4;
-    }
-    if n < 10_000_000 {
-        return 3;
-    }
-    if n < 100_000_000 {
-        return 2;
-    }
-    if n < 1_000_000_000 {
-        return 1;
-    }
-    0
-}
-
-fn digit(n: u32) -> u8 {
-    48 + (n % 10) as u8
+// A name and a number in decimal.
+pub fn put(name: &[u8], n: u32) {
+    io::write_all(STDOUT_FILENO, name);
+    io::print_decimal(STDOUT_FILENO, n as u64);
 }
 
 // A vector's name and its result in decimal.
 pub fn write(name: &[u8], n: u32) {
-    let digits = [
-        digit(n / 1_000_000_000),
-        digit(n / 100_000_000),
-        digit(n / 10_000_000),
-        digit(n / 1_000_000),
-        digit(n / 100_000),
-        digit(n / 10_000),
-        digit(n / 1000),
-        digit(n / 100),
-        digit(n / 10),
-        digit(n),
-    ];
-    let first = first_digit(n);
-    io::write_all(STDOUT_FILENO, name);
-    io::write_all(STDOUT_FILENO, &digits[first..]);
+    put(name, n);
     io::write_all(STDOUT_FILENO, b"\n");
 }
 
@@ -68,8 +21,8 @@ fn hex_digit(n: u32) -> u8 {
     55 + (n % 16) as u8
 }
 
-// A vector's name and its result in hexadecimal.
-pub fn write_hex(name: &[u8], n: u32) {
+// A name and a number in hexadecimal.
+pub fn put_hex(name: &[u8], n: u32) {
     let digits = [
         hex_digit(n / 0x1000_0000),
         hex_digit(n / 0x100_0000),
@@ -82,6 +35,11 @@ pub fn write_hex(name: &[u8], n: u32) {
     ];
     io::write_all(STDOUT_FILENO, name);
     io::write_all(STDOUT_FILENO, &digits);
+}
+
+// A vector's name and its result in hexadecimal.
+pub fn write_hex(name: &[u8], n: u32) {
+    put_hex(name, n);
     io::write_all(STDOUT_FILENO, b"\n");
 }
 

@@ -1,17 +1,18 @@
 // Numbers of documents 01 and 02 that are run: a line for each, its name and what came out. A module for each thing that is run.
-mod commands;
 mod line;
 mod normals;
 mod patches;
 mod ring;
+mod taken;
 mod units;
 
 fn main() {
     ring::starred_count();
     ring::filled();
-    commands::xf_loads();
-    commands::indexed_load();
-    commands::draw_heads();
+    taken::xf_loads();
+    taken::indexed_load();
+    taken::bp_loads();
+    taken::draws();
     patches::written();
     normals::fractions();
     normals::others();

@@ -1,6 +1,6 @@
 // Normals: document 02's fixed fractions, by the bits of a component.
 use crate::line;
-use layout::Descriptor;
+use fields::Descriptor;
 use vertex::Answer;
 
 // A direct position of two bytes and a direct normal, by VAT group 0: bit 9 is set for nine components, the format stands from bit 10 on.

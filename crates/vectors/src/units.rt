@@ -26,7 +26,7 @@ fn run(bytes: &[u8], draw: Draw, limit: u32) -> Ran {
     let mut fifo = ring::at_1000(0x1000, 0x1000);
     fifo.control = 1;
     let fed = queue::feed(fifo, &mut memory, bytes);
-    let machine = processor::fresh();
+    let machine = machine::fresh();
     let registers = machine.registers;
     let mut cp = registers.cp;
     effect::load_cp(&mut cp, 0x50, 0x200);
@@ -107,11 +107,8 @@ pub fn waiting() {
     );
 }
 
-// The fifth byte of an XF load gives 8 before anything is waited for; a run that its limit ends does not wait, although the ring is empty.
+// A run that its limit ends does not wait, although the ring is empty.
 pub fn stopping() {
-    let ran = run(&[0x10, 0x00, 0x01, 0x10, 0x57], Draw::Closed, 1);
-    let stop = ran.stop;
-    line::write(b"what stops a run over 10 00 01 10 57: ", stopped(stop));
     let ran = run(&[0x00], Draw::Closed, 1);
     let left = ran.fifo;
     let stop = ran.stop;
