@@ -12,7 +12,7 @@ use Rattle.laws.proofs.Cases.{order}
 use Rattle.octets.specs.BigEndian.{bigEndian}
 use Rattle.octets.proofs.Number.{four-bytes}
 use Rattle.command.specs.Command.{loadCp}
-use Rattle.command.specs.Places.{cpCount, cpPlace, cpAccepted}
+use Rattle.places.specs.Places.{cpCount, cpPlace, cpAccepted}
 use Rattle.command.proofs.Decided.{looks-cp}
 use Rattle.effect.specs.Effect.{cpAfter, bpAfter, xfAfter, vertexAfter, drawAfter, keptOf, loadedCp}
 use Rattle.walk.specs.Flat.{coreAfter}

@@ -10,7 +10,7 @@ use lib.Seq.{getD-set-same, getD-set-other}
 use lib.ListN.{length-set}
 use borrow.Author.Tests.{eqb-true, eqb-false}
 use Rattle.laws.proofs.Cases.{tested}
-use Rattle.command.specs.Places.{vatPlace}
+use Rattle.places.specs.Places.{vatPlace}
 use Rattle.command.specs.Look.{descriptorOf, vertexBytes}
 use Rattle.bulk.specs.Inner.{Known, Sized}
 

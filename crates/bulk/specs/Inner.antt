@@ -8,7 +8,7 @@ use lib.ListN.{length, getD, take, drop}
 use Rattle.command.specs.declared.Draw.{Draw}
 use Rattle.command.specs.declared.Draw.the-variants.{Open}
 use Rattle.command.specs.Look.{vertexBytes}
-use Rattle.command.specs.Places.{cpAccepted}
+use Rattle.places.specs.Places.{cpAccepted}
 use Rattle.effect.specs.Effect.{loadedCp, copied, openedBy}
 use Rattle.walk.specs.Flat.{Core, coreOf}
 use Rattle.walk.specs.Moves.{Moves, shut}

@@ -5,6 +5,7 @@ use command::Draw;
 ghost use mathlib.Core.Path.{_≡_};
 ghost use Prim.Native.Nat.{_+_, _-_, _*_, _<_, _≤_, min};
 ghost use lib.ListN.{length, getD};
+ghost use Rattle.command.specs.Look.{largestVertex};
 ghost use Rattle.bulk.specs.Inner.{Known, Sized, Fits, copiedAt, Leaves, VertexSize, MovesVertices, MovesOpen, MovesDraw};
 
 // A byte as a number.
@@ -48,7 +49,7 @@ fn least(a: usize, b: usize) -> usize
 
 // A number of vertices of so many bytes that are whole in the room, left and allowed. All that are left is tried first, without a division.
 fn whole(room: usize, size: usize, left: usize, most: usize) -> usize
-    requires { ⌜ (1 ≤ size) × ((size ≤ 129) × (left < 65536)) ⌝ }
+    requires { ⌜ (1 ≤ size) × ((size ≤ largestVertex) × (left < 65536)) ⌝ }
     ensures { λ r. ⌜ Fits room size left most r ⌝ }
 {
     if left <= most {
@@ -70,7 +71,7 @@ fn take_vertices(
     buffer: &mut [u8],
     most: u32,
 ) -> Many
-    requires { ⌜ (from ≤ length (now bytes)) × ((1 ≤ size) × (size ≤ 129)) ⌝ }
+    requires { ⌜ (from ≤ length (now bytes)) × ((1 ≤ size) × (size ≤ largestVertex)) ⌝ }
     ensures { λ r. ⌜ MovesVertices (now (bytes .entry)) from primitive format left size (now (buffer .entry)) most (r .units) (r .at)
         (r .draw) (now (buffer .exit)) × Leaves primitive format size (r .draw) (r .size) ⌝ }
 {

@@ -17,7 +17,7 @@ fn execute_cp(cp: &mut [u32; 60], sizes: &mut [u8; 8], address: u8, number: u32)
     requires { ⌜ Known (now cp) (now sizes) ⌝ }
     ensures { λ r. ⌜ Executes address number (now (cp .entry)) (now (sizes .entry)) r (now (cp .exit)) (now (sizes .exit)) ⌝ }
 {
-    if !command::places::cp_accepted(address) {
+    if !places::cp_accepted(address) {
         return false;
     }
     effect::load_cp(cp, address, number);

@@ -2,7 +2,7 @@
 use mathlib.Core.Path.{_≡_, refl}
 use Prim.Native.Nat.{ℕ, _+_, _-_, _<_}
 use native.Mathlib.Omega.{arith}
-use Rattle.command.specs.Places.{attribute, indexedLoad, arrayOf}
+use Rattle.places.specs.Places.{attribute, indexedLoad, arrayOf}
 
 pub attribute-arrays : (k : ℕ) → k < 12 → arrayOf (attribute (9 + k)) ≡ k
 attribute-arrays k h = omega arith

@@ -8,15 +8,15 @@ use lib.Dec.{ltb, eqb, lit≤}
 use lib.ListN.{getD}
 use borrow.Author.Tests.{ltb-true, ltb-false, eqb-true, eqb-false}
 use Rattle.laws.proofs.Cases.{cond-both}
-use Rattle.layout.specs.declared.Descriptor.{Descriptor}
-use Rattle.layout.specs.Fields.{modeOf}
+use Rattle.fields.specs.declared.Descriptor.{Descriptor}
+use Rattle.fields.specs.Fields.{modeOf}
 use Rattle.layout.specs.Sizes.{anyUnknown}
 use Rattle.layout.specs.Answers.{refusalOf, lengthOf}
 use Rattle.layout.proofs.Bounds.{length-bounds}
 use Rattle.command.specs.declared.Draw.{Draw}
 use Rattle.command.specs.declared.Draw.the-variants.{Closed, Open}
 use Rattle.command.specs.Command.{Found, waiting, vertex}
-use Rattle.command.specs.Places.{cpAccepted}
+use Rattle.places.specs.Places.{cpAccepted}
 use Rattle.command.specs.Look.{whole, lookCp, xfCount, xfWords, xfAddress, lookXf, lookIndexed, lookCall, lookBp, descriptorOf}
 use Rattle.command.specs.Look.{unlessRefused, lookHead, lookVertex, isIndexed, isDraw, byOpcode, lookOf}
 pub use Rattle.command.specs.Bounds.{Fair}

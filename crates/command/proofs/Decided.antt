@@ -9,13 +9,13 @@ use lib.Dec.{eqb}
 use lib.ListN.{getD}
 use borrow.Author.Tests.{eqb-true, ne-eqb, le-ltb, lt-ltb}
 use Rattle.octets.specs.BigEndian.{bigEndian}
-use Rattle.layout.specs.declared.Descriptor.{Descriptor}
+use Rattle.fields.specs.declared.Descriptor.{Descriptor}
 use Rattle.layout.specs.Sizes.{offsetOf}
 use Rattle.layout.specs.Answers.{refusalOf, lengthOf}
 use Rattle.layout.proofs.Bounds.{length-le}
 use Rattle.command.specs.declared.Draw.the-variants.{Closed, Open}
 use Rattle.command.specs.Command.{unit, waiting, vertex, loadCp, loadBp, loadXf, drawHead}
-use Rattle.command.specs.Places.{cpAccepted}
+use Rattle.places.specs.Places.{cpAccepted}
 use Rattle.command.specs.Look.{descriptorOf, vertexBytes, whole, lookCp, lookBp, lookHead, lookVertex, byOpcode, lookOf}
 use Rattle.command.specs.Look.{xfCount, xfWords, xfAddress, lookXf}
 use Rattle.command.proofs.Opcodes.{Other, at-opcode, at-head}
@@ -64,7 +64,7 @@ looks-cp b n cp e a h =
     rw (ne-eqb n 0 (λ z. omega arith), e, le-ltb n 2 two, a, le-ltb n 6 h)
 
 -- an opcode of a draw is none of the single ones
-head-other : (op : ℕ) → 0x80 ≤ op → Other op
+pub head-other : (op : ℕ) → 0x80 ≤ op → Other op
 head-other op h =
     record {
       no-operation = λ e. omega arith;

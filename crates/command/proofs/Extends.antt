@@ -15,7 +15,7 @@ use Rattle.layout.specs.Answers.{refusalOf}
 use Rattle.command.specs.declared.Draw.{Draw}
 use Rattle.command.specs.declared.Draw.the-variants.{Closed, Open}
 use Rattle.command.specs.Command.{Found, unit, waiting, refused}
-use Rattle.command.specs.Places.{cpAccepted}
+use Rattle.places.specs.Places.{cpAccepted}
 use Rattle.command.specs.Look.{whole, lookCp, xfCount, xfWords, xfAddress, lookXf, lookIndexed, lookCall, lookBp, descriptorOf}
 use Rattle.command.specs.Look.{unlessRefused, lookHead, lookVertex, isIndexed, isDraw, byOpcode, lookOf}
 use Rattle.command.specs.Bounds.{Fair}
@@ -40,9 +40,6 @@ pub record Extends (E : Type 0) (n n' : ℕ) (x y : Found) : Type 0 where
   pub fewer : (k : ℕ) → x ≡ waiting k → n' < n + k → NoUnit y
   pub just : (k : ℕ) → x ≡ waiting k → n' ≡ n + k → (E → ⊥) → Settled y
   pub alone : (c : List ℕ) (m l : ℕ) → y ≡ unit c m l → l ≤ n → x ≡ y
-
-no : {A : Type 0} → _≡_ {A = ℕ} 0 1 → A
-no e = absurd (omega (arith, e))
 
 pub unit-settled : (c : List ℕ) (m l : ℕ) → Settled (unit c m l)
 unit-settled c m l k e = let z : _≡_ {A = ℕ} 0 1 = cc in omega arith

@@ -14,7 +14,7 @@ use Rattle.layout.specs.Answers.{refusalOf, lengthOf}
 use Rattle.command.specs.declared.Draw.{Draw}
 use Rattle.command.specs.declared.Draw.the-variants.{Closed, Open}
 use Rattle.command.specs.Command.{Found, loadBp, drawHead}
-use Rattle.command.specs.Places.{cpAccepted}
+use Rattle.places.specs.Places.{cpAccepted}
 use Rattle.command.specs.Look.{whole, lookCp, xfCount, xfWords, xfAddress, lookXf, lookIndexed, lookCall, lookBp, descriptorOf}
 use Rattle.command.specs.Look.{unlessRefused, lookHead, lookVertex, isIndexed, isDraw, byOpcode, lookOf}
 pub use Rattle.command.specs.Bounds.{Ranged, Ranges}

@@ -2,13 +2,14 @@
 use mathlib.Core.Path.{_≡_}
 use mathlib.Core.List.{List}
 use Prim.Native.Nat.{ℕ, _+_, _^_, _<_, _≤_}
+use Rattle.layout.specs.Answers.{largestVertex}
 use Rattle.command.specs.Command.{Found, unit, waiting, refused, kindOf, fieldOf}
 
 -- at n bytes: a unit has 1 to 129 bytes and all of them are there; what waits lacks a byte or more, and 129 are always enough
 -- ("A full ring is never answered with waiting"); a refusal is one of 6 to 10
 abbrev pub Fair : ℕ → Found → Type 0
-Fair n (unit c m l) = (1 ≤ l) × ((l ≤ n) × (l ≤ 129))
-Fair n (waiting k) = (1 ≤ k) × (n + k ≤ 129)
+Fair n (unit c m l) = (1 ≤ l) × ((l ≤ n) × (l ≤ largestVertex))
+Fair n (waiting k) = (1 ≤ k) × (n + k ≤ largestVertex)
 Fair n (refused r) = (6 ≤ r) × (r ≤ 10)
 
 -- the fields of a command that was read have their widths: a BP number 24 bits, a primitive and a format three, a vertex count 16

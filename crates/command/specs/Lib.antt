@@ -1,5 +1,4 @@
 pub mod Command
-pub mod Places
 pub mod Look
 pub mod Bounds
 pub mod Prefix

@@ -5,13 +5,14 @@ use Prim.Native.Nat.{ℕ, zero, suc, _+_, _-_, _*_, _/_, _%_, _^_}
 use lib.Dec.{leb, ltb, eqb}
 use lib.ListN.{getD}
 use Rattle.octets.specs.BigEndian.{bigEndian}
-use Rattle.layout.specs.declared.Descriptor.{Descriptor}
+use Rattle.fields.specs.declared.Descriptor.{Descriptor}
 use Rattle.layout.specs.Answers.{refusalOf, lengthOf}
+pub use Rattle.layout.specs.Answers.{largestVertex}
 use Rattle.command.specs.declared.Draw.{Draw}
 use Rattle.command.specs.declared.Draw.the-variants.{Closed, Open}
 use Rattle.command.specs.Command.{Found, unit, waiting, refused, noOperation, invalidateCache, metrics}
 use Rattle.command.specs.Command.{loadCp, loadXf, loadIndexed, callList, loadBp, drawHead, vertex}
-use Rattle.command.specs.Places.{cpAccepted, vcdPlace, vatPlace, basePlace, stridePlace, indexedLoad, arrayOf}
+use Rattle.places.specs.Places.{cpAccepted, vcdPlace, vatPlace, basePlace, stridePlace, indexedLoad, arrayOf}
 
 -- a unit of so many bytes: it waits for those that it lacks
 unfoldable pub whole : ℕ → ℕ → List ℕ → ℕ → Found

@@ -4,6 +4,7 @@ use mathlib.Core.Path.{_≡_}
 use mathlib.Core.List.{List, [], _++_}
 use Prim.Native.Nat.{ℕ, _+_, _-_, _*_, _<_, _≤_}
 use lib.ListN.{length, getD, take}
+use Rattle.layout.specs.Answers.{largestVertex}
 use Rattle.command.specs.declared.Draw.{Draw}
 use Rattle.command.specs.declared.Draw.the-variants.{Closed, Open}
 use Rattle.command.specs.Command.{Found, unit, waiting}
@@ -21,7 +22,7 @@ pub record LookPromises : Type 0 where
   pub alone : (p cp : List ℕ) (draw : Draw) (c : List ℕ) (m l : ℕ) → lookAll p cp draw ≡ unit c m l
       → lookOf (take l p) l cp draw ≡ unit c m l
   -- "A full ring is never answered with waiting": with 129 bytes or more no answer is
-  pub progress : (b : List ℕ) (n : ℕ) → 129 ≤ n → (cp : List ℕ) (draw : Draw) (k : ℕ) → lookOf b n cp draw ≡ waiting k → ⊥
+  pub progress : (b : List ℕ) (n : ℕ) → largestVertex ≤ n → (cp : List ℕ) (draw : Draw) (k : ℕ) → lookOf b n cp draw ≡ waiting k → ⊥
 
 -- Document 02, L4: "Let waiting carry the number of bytes lacking for the unit". Of answers that wait: for how many bytes, and what comes
 -- after them.
@@ -42,7 +43,7 @@ pub record WaitingPromises : Type 0 where
   pub vertex : (p cp : List ℕ) (primitive format left k : ℕ) → lookAll p cp (Open primitive format left) ≡ waiting k
       → length p + k ≡ vertexBytes cp format
   -- "It is at least 1"; and with what is there at most 129
-  pub bounds : (p cp : List ℕ) (draw : Draw) (k : ℕ) → lookAll p cp draw ≡ waiting k → (1 ≤ k) × (length p + k ≤ 129)
+  pub bounds : (p cp : List ℕ) (draw : Draw) (k : ℕ) → lookAll p cp draw ≡ waiting k → (1 ≤ k) × (length p + k ≤ largestVertex)
   -- with fewer bytes more than are lacking the answer is never a unit
   pub fewer : (p q cp : List ℕ) (draw : Draw) (k : ℕ) → lookAll p cp draw ≡ waiting k → length q < k → NoUnit (lookAll (p ++ q) cp draw)
   -- with just that many it is a unit or a refusal, or it waits again, for a later one of these: 1 the opcode, 2 the rest of an XF load's

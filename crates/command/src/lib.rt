@@ -1,7 +1,7 @@
 // A command of the stream: its fields as they stood there, before any masking.
-pub mod places;
 mod units;
 
+pub use layout::LARGEST_VERTEX;
 use refusal::Reason;
 ghost use mathlib.Core.Path.{_≡_};
 ghost use Rattle.command.specs.Command.{meaning};

@@ -2,8 +2,7 @@
 // The bytes are the first nine, zeros past the last; `count` is how many there are in all.
 use crate::Command;
 use crate::Next;
-use crate::places;
-use layout::Descriptor;
+use fields::Descriptor;
 use layout::LayoutAnswer;
 use refusal::Reason;
 ghost use mathlib.Core.Path.{_≡_};

@@ -3,3 +3,4 @@ pub mod TwoTo
 pub mod Complement
 pub mod Exactly
 pub mod Patterns
+mod NotNan

@@ -1,10 +1,10 @@
 -- The pattern (127 - s) * 2 ^ 23 is 2 ^ -s, for an s below 32.
-use mathlib.Core.Path.{_≡_, sym, ap, _∙_, subst}
-use mathlib.Core.Bool.{Bool, not}
+use mathlib.Core.Path.{_≡_, sym, ap, _∙_}
+use mathlib.Core.Bool.{Bool}
 use Prim.Native.Nat.{ℕ, _-_, _*_, _<_}
 use lib.Dec.{T, eqb, eqb→eq}
-use lib.Ieee.{binary32, fits, isNan, ofBits, toBits, nanBits}
-use lib.Ieee.Bits.{ofBits-toBits, nanBits-is}
+use lib.Ieee.{binary32, fits, ofBits, toBits}
+use lib.Ieee.Bits.{ofBits-toBits}
 use Rattle.component.specs.Component.{twoTo}
 use Rattle.laws.proofs.Table.{both, both-left, both-right, every, at}
 
@@ -24,11 +24,3 @@ pattern s h =
     (both-left (eqb (toBits binary32 (twoTo s)) ((127 - s) * 8388608)) (fits binary32 (twoTo s)) t) in
     ap (λ (b : ℕ). ofBits binary32 b) (sym e) ∙ ofBits-toBits binary32 (twoTo s)
     (both-right (eqb (toBits binary32 (twoTo s)) ((127 - s) * 8388608)) (fits binary32 (twoTo s)) t)
-
-no-nan : (s : ℕ) → T (not (isNan (twoTo s)))
-unfolding isNan
-no-nan s = tt
-
-pub pattern-no-nan : (s : ℕ) → s < 32 → T (not (nanBits binary32 ((127 - s) * 8388608)))
-pattern-no-nan s h =
-    subst (λ (b : Bool). T (not b)) (sym (nanBits-is binary32 ((127 - s) * 8388608) ∙ ap isNan (pattern s h))) (no-nan s)

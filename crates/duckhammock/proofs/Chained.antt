@@ -12,7 +12,7 @@ use Rattle.fifo.specs.declared.Fifo.{Fifo}
 use Rattle.fifo.specs.Registers.{writable, writeAnswer, written}
 use Rattle.queue.specs.Feeding.{accepted, fifoAfter, ringAfter}
 use Rattle.queue.proofs.FeedLaws.{refused-left}
-use Rattle.processor.specs.State.{State}
+use Rattle.machine.specs.State.{State}
 use Rattle.processor.specs.Step.{after, stepFound, stepOf}
 use Rattle.running.specs.Run.{runOf}
 use Rattle.running.proofs.Invariant.{none-run}
@@ -20,7 +20,8 @@ use Rattle.words.specs.State.{fifoOf, stateAt, fifoStored}
 use Rattle.words.specs.Promises.{stateWith}
 use Rattle.words.proofs.Holding.{words-promises}
 use Rattle.encoding.specs.Told.{firstOf, answerNumber}
-use Rattle.duckhammock.specs.Calls.{WritesRegister, Feeds, Lent, lentOf, lentBy}
+use Rattle.access.specs.Calls.{WritesRegister, Feeds}
+use Rattle.stepping.specs.Calls.{Lent, lentOf, lentBy}
 use Rattle.duckhammock.specs.Promises.{saidBy, CallsPromises}
 
 -- ---- a call that is not accepted leaves the fifo and the state

@@ -4,7 +4,7 @@ use mathlib.Core.List.{List}
 use Prim.Native.Nat.{ℕ}
 use native.Mathlib.Omega.{arith}
 use Rattle.command.specs.Command.{Found, unit, waiting, refused}
-use Rattle.processor.specs.State.{State}
+use Rattle.machine.specs.State.{State}
 use Rattle.processor.specs.Step.{stepFound}
 use Rattle.running.proofs.Waiting.{step-refuses}
 use Rattle.encoding.specs.Told.{Tells}

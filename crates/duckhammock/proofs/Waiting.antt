@@ -7,13 +7,13 @@ use lib.ListN.{length}
 use Rattle.octets.specs.BigEndian.{Octets}
 use Rattle.command.specs.Command.{Found, unit, waiting, refused}
 use Rattle.queue.specs.Feeding.{roomOf}
-use Rattle.processor.specs.State.{State}
+use Rattle.machine.specs.State.{State}
 use Rattle.processor.specs.Step.{stepFound}
 use Rattle.running.specs.Run.{runOf}
 use Rattle.running.proofs.Waiting.{lacking-fits, step-refuses, run-stopped}
 use Rattle.words.specs.State.{windowOf, fifoOf, stateAt}
 use Rattle.encoding.specs.Told.{secondOf, answerNumber, lackingOf}
-use Rattle.duckhammock.specs.Calls.{Lent, lentOf, Looks, Ends}
+use Rattle.stepping.specs.Calls.{Lent, lentOf, Looks, Ends}
 use Rattle.duckhammock.specs.Promises.{saidBy, LackingPromises}
 use Rattle.duckhammock.proofs.Chained.{calls-promises}
 

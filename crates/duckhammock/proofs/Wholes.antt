@@ -5,16 +5,16 @@ use mathlib.Core.List.{List}
 use Prim.Native.Nat.{ℕ, _*_, _<_}
 use lib.Dec.{eqb}
 use lib.ListN.{take, drop}
-use Rattle.layout.specs.declared.Descriptor.{Descriptor}
+use Rattle.fields.specs.declared.Descriptor.{Descriptor}
 use Rattle.layout.specs.Sizes.{offsetOf}
 use Rattle.vertex.specs.Attributes.{attributeList}
 use Rattle.vertex.specs.Answers.{refusalAt, unless}
 use Rattle.encoding.specs.Told.{padded}
 use Rattle.whole.specs.Whole.{wholeTo}
 use Rattle.whole.proofs.Tens.{refusal-alike, part-of-whole}
-use Rattle.duckhammock.specs.Formats.{TellsAttribute, TellsAll}
+use Rattle.formats.specs.Formats.{TellsAttribute, TellsAll}
 use Rattle.duckhammock.specs.Promises.{WholePromises}
-use Rattle.duckhammock.proofs.Refusals.{first-is}
+use Rattle.encoding.proofs.Refusals.{first-is}
 
 module _ (d : Descriptor) (k : ℕ) (vertex values : List ℕ) (r : ℕ) (values' one : List ℕ) (s : ℕ) (one' : List ℕ) (h : k < 21)
     (t : TellsAll d vertex values r values') (a : TellsAttribute d k vertex one s one') where

@@ -1,5 +1,1 @@
-pub mod Calls
-pub mod Formats
-pub mod Counting
 pub mod Promises
-pub mod InPlace

@@ -10,15 +10,16 @@ use Rattle.octets.specs.BigEndian.{Octets}
 use Rattle.command.specs.Command.{waiting}
 use Rattle.fifo.specs.Registers.{written}
 use Rattle.queue.specs.Feeding.{roomOf, fifoAfter, ringAfter}
-use Rattle.processor.specs.State.{State}
+use Rattle.machine.specs.State.{State}
 use Rattle.processor.specs.Step.{stepFound, stepOf}
 use Rattle.running.specs.Run.{runOf}
 use Rattle.words.specs.State.{windowOf, fifoOf, stateAt}
 use Rattle.words.specs.Promises.{stateWith}
 use Rattle.encoding.specs.Told.{secondOf}
-use Rattle.layout.specs.declared.Descriptor.{Descriptor}
-use Rattle.duckhammock.specs.Formats.{TellsAttribute, TellsAll}
-use Rattle.duckhammock.specs.Calls.{WritesRegister, Feeds, Lent, lentOf, Looks, TakesOne, Ends}
+use Rattle.fields.specs.declared.Descriptor.{Descriptor}
+use Rattle.formats.specs.Formats.{TellsAttribute, TellsAll}
+use Rattle.access.specs.Calls.{WritesRegister, Feeds}
+use Rattle.stepping.specs.Calls.{Lent, lentOf, Looks, TakesOne, Ends}
 
 -- the state that what was lent says
 abbrev pub saidBy : Lent → State

@@ -1,65 +1,26 @@
-// The library's calls on numbers and slices, for C and Rust to link, and for the program `show`. `include/duckhammock.h` says them in
-// C's words.
+// The library's calls on numbers and slices under their names in C, for C and Rust to link, and for the program `show`.
+// `include/duckhammock.h` says them in C's words; the crates `access`, `stepping`, `formats` and `patching` do them.
 //
 // The state is 327 words that the caller keeps (`words`, specs/State.antt). The number returned is 0 where the call was accepted, a unit
 // is told or was done or the limit was reached, 255 for waiting, and else the refusal's number. A refused or waiting call changes nothing
 // that it was lent, but that waiting tells how many bytes are lacking; a run keeps the units before the one that was refused or waits, and
 // its report is told whatever the answer.
-mod formats;
-mod patches;
-
-use command::Draw;
-use fifo::Answer;
-use fifo::Fifo;
-use fifo::Reading;
-pub use formats::duckhammock_decode;
-pub use formats::duckhammock_decode_all;
-pub use formats::duckhammock_lay_out;
-pub use formats::duckhammock_raw_words;
-pub use patches::duckhammock_check_patch;
-pub use patches::duckhammock_merge_patches;
-pub use patches::duckhammock_write_command;
-pub use patches::duckhammock_write_patch;
-use processor::Gate;
-use processor::StepAnswer;
-use processor::TakenUnit;
-use refusal::Reason;
-use running::Ran;
-use words::BP_PLACE;
-use words::Front;
 ghost use mathlib.Core.Path.{_≡_};
-ghost use lib.ListN.{length};
-ghost use Rattle.refusal.specs.Number.{number};
-ghost use Rattle.processor.specs.Gate.{gateBy};
-ghost use Rattle.processor.specs.State.{stateOf};
-ghost use Rattle.processor.specs.Step.{Steps};
-ghost use Rattle.running.specs.Run.{runOf, Reports};
-ghost use Rattle.words.specs.State.{cpOf, bpOf, stateAt, freshWords};
-ghost use Rattle.duckhammock.specs.InPlace.{AheadKept};
-ghost use Rattle.duckhammock.specs.Calls.{ReadsRegister, WritesRegister, Feeds, lentOf, Looks, TakesOne, Ends};
-
-// The hardware offset of the control register, whose state word may be wider than the register.
-const CONTROL: u16 = 0x002;
-
-// A refusal's number.
-fn refused(reason: Reason) -> u32
-    ensures { λ r. ⌜ r ≡ number reason ⌝ }
-{
-    refusal::number(reason) as u32
-}
+ghost use Rattle.patch.specs.Patch.{patchOf, faultOf};
+ghost use Rattle.running.specs.Run.{runOf};
+ghost use Rattle.words.specs.State.{stateAt, freshWords};
+ghost use Rattle.encoding.specs.Named.{commandNamed, formatNamed};
+ghost use Rattle.access.specs.Calls.{ReadsRegister, WritesRegister, Feeds};
+ghost use Rattle.stepping.specs.Calls.{lentOf, Looks, TakesOne, Ends};
+ghost use Rattle.formats.specs.Formats.{LaysOut, TellsAttribute, TellsAll, KeepsBits};
+ghost use Rattle.patching.specs.Writing.{PutsCommand, PutsPatch, MergesInto};
 
 // The fresh state.
 #[no_mangle]
 pub extern "C" fn duckhammock_fresh(state: &mut [u32; 327])
     ensures { λ _. ⌜ now (state .exit) ≡ freshWords ⌝ }
 {
-    let machine = processor::fresh();
-    let fifo = machine.fifo;
-    let registers = machine.registers;
-    let cp = registers.cp;
-    let bp = registers.bp;
-    let draw = registers.draw;
-    words::save(state, fifo, &cp, &bp, draw);
+    access::fresh(state);
 }
 
 // Reads a hardware register; the control register as its word stands.
@@ -67,22 +28,7 @@ pub extern "C" fn duckhammock_fresh(state: &mut [u32; 327])
 pub extern "C" fn duckhammock_read_register(state: &[u32; 327], offset: u16, value: &mut u32) -> u32
     ensures { λ r. ⌜ ReadsRegister (now (state .entry)) offset (now (value .entry)) r (now (value .exit)) ⌝ }
 {
-    if offset == CONTROL {
-        *value = state[6];
-        return 0;
-    }
-    let fifo = Fifo {
-        window: words::window(state),
-        control: 0,
-    };
-    let reading = fifo::read_register(fifo, state[7] != 0, offset);
-    match reading {
-        Reading::Refused(reason) => refused(reason),
-        Reading::Value(held) => {
-            *value = held as u32;
-            0
-        }
-    }
+    access::read_register(state, offset, value)
 }
 
 // Writes a hardware register.
@@ -90,22 +36,7 @@ pub extern "C" fn duckhammock_read_register(state: &[u32; 327], offset: u16, val
 pub extern "C" fn duckhammock_write_register(state: &mut [u32; 327], offset: u16, value: u16) -> u32
     ensures { λ r. ⌜ WritesRegister (now (state .entry)) offset value r (now (state .exit)) ⌝ }
 {
-    let fifo = Fifo {
-        window: words::window(state),
-        control: 0,
-    };
-    let changed = fifo::write_register(fifo, offset, value);
-    let answer = changed.answer;
-    let after = changed.fifo;
-    if let Answer::Refused(reason) = answer {
-        return refused(reason);
-    }
-    if offset == CONTROL {
-        words::save_control(state, after.control);
-        return 0;
-    }
-    words::save_window(state, after.window);
-    0
+    access::write_register(state, offset, value)
 }
 
 // Feeds bytes to the ring.
@@ -113,66 +44,7 @@ pub extern "C" fn duckhammock_write_register(state: &mut [u32; 327], offset: u16
 pub extern "C" fn duckhammock_feed(state: &mut [u32; 327], ring: &mut [u8], bytes: &[u8]) -> u32
     ensures { λ r. ⌜ Feeds (now (state .entry)) (now (ring .entry)) (now (bytes .entry)) r (now (state .exit)) (now (ring .exit)) ⌝ }
 {
-    let fifo = Fifo {
-        window: words::window(state),
-        control: 0,
-    };
-    let changed = queue::feed(fifo, ring, bytes);
-    let answer = changed.answer;
-    let after = changed.fifo;
-    if let Answer::Refused(reason) = answer {
-        return refused(reason);
-    }
-    words::save_write(state, after.window.write);
-    0
-}
-
-// A taking whose BP registers are lent where they stand among the words.
-fn take_words(
-    state: &mut [u32],
-    fifo: Fifo,
-    cp: &mut [u32; 60],
-    draw: Draw,
-    ring: &[u8],
-    xf: &mut [u32],
-    vertex: &mut [u8],
-) -> TakenUnit
-    requires { ⌜ length (now state) ≡ 327 ⌝ }
-    ensures { λ r. ⌜ (Steps (now (ring .entry))
-        (stateOf fifo (now (cp .entry)) (bpOf (now (state .entry))) draw (now (xf .entry)) (now (vertex .entry)))
-        r (now (cp .exit)) (bpOf (now (state .exit))) (now (xf .exit)) (now (vertex .exit)))
-        × AheadKept (now (state .entry)) (now (state .exit)) ⌝ }
-{
-    processor::take(fifo, cp, &mut state[BP_PLACE..], draw, ring, xf, vertex)
-}
-
-// A run whose BP registers are lent so.
-fn run_words(
-    state: &mut [u32],
-    fifo: Fifo,
-    cp: &mut [u32; 60],
-    draw: Draw,
-    ring: &[u8],
-    xf: &mut [u32],
-    vertex: &mut [u8],
-    limit: u32,
-) -> Ran
-    requires { ⌜ length (now state) ≡ 327 ⌝ }
-    ensures { λ r. ⌜ (Reports (runOf (now (ring .entry)) limit
-        (stateOf fifo (now (cp .entry)) (bpOf (now (state .entry))) draw (now (xf .entry)) (now (vertex .entry))))
-        r (now (cp .exit)) (bpOf (now (state .exit))) (now (xf .exit)) (now (vertex .exit)))
-        × AheadKept (now (state .entry)) (now (state .exit)) ⌝ }
-{
-    running::run(
-        fifo,
-        cp,
-        &mut state[BP_PLACE..],
-        draw,
-        ring,
-        xf,
-        vertex,
-        limit,
-    )
+    access::feed(state, ring, bytes)
 }
 
 // Tells the next unit and changes nothing else: its command's five words and how many bytes it has; where it waits, how many are lacking.
@@ -188,14 +60,7 @@ pub extern "C" fn duckhammock_look(
     ensures { λ r. ⌜ Looks (now (ring .entry)) (stateAt (now (state .entry)) (now (xf .entry)) (now (vertex .entry)))
         (now (unit .entry)) (now (lacking .entry)) r (now (unit .exit)) (now (lacking .exit)) ⌝ }
 {
-    let front = words::read_front(state);
-    let Front::Held { fifo, draw } = front else {
-        return refused(Reason::InvalidState);
-    };
-    let cp = words::cp(state);
-    let all = &state[..];
-    let answer = processor::look(fifo, &cp, &all[BP_PLACE..], draw, ring, xf, vertex);
-    encoding::tell_answer(answer, unit, lacking)
+    stepping::look(state, ring, xf, vertex, unit, lacking)
 }
 
 // Takes the next unit, and tells what a look at it tells.
@@ -213,40 +78,7 @@ pub extern "C" fn duckhammock_take(
         (now (lacking .entry)) r (lentOf (now (state .exit)) (now (xf .exit)) (now (vertex .exit)))
         (now (unit .exit)) (now (lacking .exit)) ⌝ }
 {
-    let front = words::read_front(state);
-    let Front::Held { fifo, draw } = front else {
-        return refused(Reason::InvalidState);
-    };
-    let mut cp = words::cp(state);
-    let taken = take_words(state, fifo, &mut cp, draw, ring, xf, vertex);
-    let answer = taken.answer;
-    let StepAnswer::Done { command, .. } = answer else {
-        return encoding::tell_answer(answer, unit, lacking);
-    };
-    let after = taken.fifo;
-    let left = taken.draw;
-    words::save_unit(state, command, after, &cp, left);
-    encoding::tell_answer(answer, unit, lacking)
-}
-
-// The first of 1 to 5 that applies to the words as they stand, 0 where none does. The copy is only read, and the compiler leaves it out.
-fn gate_number(
-    state: &[u32; 327],
-    fifo: Fifo,
-    draw: Draw,
-    ring: usize,
-    xf: usize,
-    vertex: usize,
-) -> u32
-    ensures { λ r. ⌜ r ≡ gateBy fifo (cpOf (now (state .entry))) (bpOf (now (state .entry))) draw ring xf vertex ⌝ }
-{
-    let cp = words::cp(state);
-    let all = &state[..];
-    let gate = processor::pass(fifo, &cp, &all[BP_PLACE..], draw, ring, xf, vertex);
-    match gate {
-        Gate::Passed => 0,
-        Gate::Refused(reason) => refused(reason),
-    }
+    stepping::take(state, ring, xf, vertex, unit, lacking)
 }
 
 // Takes units until the limit, waiting or a refusal. Its report: the units done, and the bytes lacking, 0 unless it waits.
@@ -263,26 +95,112 @@ pub extern "C" fn duckhammock_run(
         (lentOf (now (state .entry)) (now (xf .entry)) (now (vertex .entry)))
         r (lentOf (now (state .exit)) (now (xf .exit)) (now (vertex .exit))) (now (report .exit)) ⌝ }
 {
-    let front = words::read_front(state);
-    let Front::Held { fifo, draw } = front else {
-        *report = [0, 0];
-        return refused(Reason::InvalidState);
-    };
-    if limit == 0 {
-        *report = [0, 0];
-        return gate_number(state, fifo, draw, ring.len(), xf.len(), vertex.len());
-    }
-    let mut cp = words::cp(state);
-    let ran = run_words(state, fifo, &mut cp, draw, ring, xf, vertex, limit);
-    let stop = ran.stop;
-    let units = ran.units;
-    let told = [units, encoding::stop_lacking(stop)];
-    *report = told;
-    if units == 0 {
-        return encoding::stop_number(stop);
-    }
-    let last = ran.fifo;
-    let left = ran.draw;
-    words::save_before_bp(state, last, &cp, left);
-    encoding::stop_number(stop)
+    stepping::run(state, ring, xf, vertex, limit, report)
+}
+
+// The layout of a vertex: each attribute's bytes, the sum of those before it, and the length.
+#[no_mangle]
+pub extern "C" fn duckhammock_lay_out(
+    format: &[u32; 5],
+    sizes: &mut [u8; 21],
+    offsets: &mut [u8; 21],
+    length: &mut u32,
+) -> u32
+    ensures { λ r. ⌜ LaysOut (formatNamed (now (format .entry))) (now (sizes .entry)) (now (offsets .entry)) (now (length .entry))
+        r (now (sizes .exit)) (now (offsets .exit)) (now (length .exit)) ⌝ }
+{
+    formats::lay_out(format, sizes, offsets, length)
+}
+
+// One attribute of a vertex: its kind and nine values, zeros where unused.
+#[no_mangle]
+pub extern "C" fn duckhammock_decode(
+    format: &[u32; 5],
+    attribute: u32,
+    vertex: &[u8],
+    values: &mut [u32; 10],
+) -> u32
+    ensures { λ r. ⌜ TellsAttribute (formatNamed (now (format .entry))) attribute (now (vertex .entry)) (now (values .entry))
+        r (now (values .exit)) ⌝ }
+{
+    formats::decode(format, attribute, vertex, values)
+}
+
+// All attributes of a vertex: ten words each, the kind and nine values, zeros where unused.
+#[no_mangle]
+pub extern "C" fn duckhammock_decode_all(
+    format: &[u32; 5],
+    vertex: &[u8],
+    values: &mut [u32; 210],
+) -> u32
+    ensures { λ r. ⌜ TellsAll (formatNamed (now (format .entry))) (now (vertex .entry)) (now (values .entry)) r (now (values .exit)) ⌝ }
+{
+    formats::decode_all(format, vertex, values)
+}
+
+// The f32 components of an attribute as they stand: how many there are, and nine words, zeros where unused.
+#[no_mangle]
+pub extern "C" fn duckhammock_raw_words(
+    format: &[u32; 5],
+    attribute: u32,
+    vertex: &[u8],
+    values: &mut [u32; 10],
+) -> u32
+    ensures { λ r. ⌜ KeepsBits (formatNamed (now (format .entry))) attribute (now (vertex .entry)) (now (values .entry))
+        r (now (values .exit)) ⌝ }
+{
+    formats::raw_words(format, attribute, vertex, values)
+}
+
+// Writes the command that five words name, an XF load with its lent words, and tells its bytes.
+#[no_mangle]
+pub extern "C" fn duckhammock_write_command(
+    command: &[u32; 5],
+    lent: &[u32],
+    output: &mut [u8],
+    written: &mut u32,
+) -> u32
+    ensures { λ r. ⌜ PutsCommand (commandNamed (now (command .entry))) (now (lent .entry)) (now (output .entry)) (now (written .entry))
+        r (now (output .exit)) (now (written .exit)) ⌝ }
+{
+    patching::write_command(command, lent, output, written)
+}
+
+// Whether a patch is accepted.
+#[no_mangle]
+pub extern "C" fn duckhammock_check_patch(masks: &[u32], numbers: &[u32]) -> u32
+    ensures { λ r. ⌜ r ≡ faultOf (patchOf (now (masks .entry)) (now (numbers .entry))) ⌝ }
+{
+    patching::check(masks, numbers)
+}
+
+// Merges the patches A and B into the lent pair: the bits that either names, B's where both do.
+#[no_mangle]
+pub extern "C" fn duckhammock_merge_patches(
+    a_masks: &[u32],
+    a_numbers: &[u32],
+    b_masks: &[u32],
+    b_numbers: &[u32],
+    masks: &mut [u32],
+    numbers: &mut [u32],
+) -> u32
+    ensures { λ r. ⌜ MergesInto (patchOf (now («a_masks» .entry)) (now («a_numbers» .entry)))
+        (patchOf (now («b_masks» .entry)) (now («b_numbers» .entry)))
+        (patchOf (now (masks .entry)) (now (numbers .entry))) r (patchOf (now (masks .exit)) (now (numbers .exit))) ⌝ }
+{
+    patching::merge(a_masks, a_numbers, b_masks, b_numbers, masks, numbers)
+}
+
+// Writes a patch as commands, and tells its bytes.
+#[no_mangle]
+pub extern "C" fn duckhammock_write_patch(
+    masks: &[u32],
+    numbers: &[u32],
+    output: &mut [u8],
+    written: &mut u32,
+) -> u32
+    ensures { λ r. ⌜ PutsPatch (patchOf (now (masks .entry)) (now (numbers .entry))) (now (output .entry)) (now (written .entry))
+        r (now (output .exit)) (now (written .exit)) ⌝ }
+{
+    patching::write(masks, numbers, output, written)
 }

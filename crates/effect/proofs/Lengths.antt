@@ -9,7 +9,7 @@ use lib.ListN.{length, set, length-set, length-append, length-drop}
 use borrow.Author.Tests.{leb-true}
 use Rattle.laws.proofs.Cases.{cond-both}
 use Rattle.command.specs.Command.{kindOf, fieldOf}
-use Rattle.command.specs.Places.{cpCount, cpPlace}
+use Rattle.places.specs.Places.{cpCount, cpPlace}
 use Rattle.effect.specs.Effect.{maskPlace, loadedCp, cpAfter, storedBp, loadedBp, bpAfter}
 use Rattle.effect.specs.Effect.{storedXf, loadedXf, xfAfter, copied, vertexAfter}
 
@@ -49,7 +49,9 @@ pub length-copied : (bytes buffer : List ℕ) → length (copied bytes buffer) �
 unfolding copied
 length-copied bytes buffer =
     cond-both (AsLong buffer) (leb (length bytes) (length buffer))
-    (λ e. let h : length bytes ≤ length buffer = leb-true (length bytes) (length buffer) e in rw (length-append bytes, length-drop) (omega arith))
+    (λ e.
+    let h : length bytes ≤ length buffer = leb-true (length bytes) (length buffer) e in
+    rw (length-append bytes, length-drop) (omega arith))
     (λ _. refl)
 
 pub length-buffer : (c bytes buffer : List ℕ) → length (vertexAfter c bytes buffer) ≡ length buffer

@@ -9,7 +9,7 @@ use lib.Dec.{leb, ltb, eqb}
 use lib.ListN.{length, getD, set, drop}
 use Rattle.octets.specs.BigEndian.{bigEndian}
 use Rattle.command.specs.Command.{kindOf, fieldOf}
-use Rattle.command.specs.Places.{cpCount, cpPlace}
+use Rattle.places.specs.Places.{cpCount, cpPlace}
 use Rattle.command.specs.declared.Draw.{Draw}
 use Rattle.command.specs.declared.Draw.the-variants.{Closed, Open}
 

@@ -32,9 +32,9 @@ fn kept(address: u8, number: u32) -> u32
 pub fn load_cp(cp: &mut [u32; 60], address: u8, number: u32)
     ensures { λ _. ⌜ now (cp .exit) ≡ loadedCp (now (cp .entry)) address number ⌝ }
 {
-    let at = command::places::cp_place(address);
+    let at = places::cp_place(address);
     let new = kept(address, number);
-    if at < command::places::COUNT {
+    if at < places::COUNT {
         cp[at] = new;
     }
 }

@@ -1,2 +1,4 @@
 pub mod Floats
 pub mod Nine
+pub mod Refusals
+pub mod Handed

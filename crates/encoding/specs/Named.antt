@@ -6,7 +6,7 @@ use mathlib.Core.List.{List}
 use Prim.Native.Nat.{ℕ, _^_}
 use lib.Dec.{eqb, ltb}
 use lib.ListN.{getD}
-use Rattle.layout.specs.declared.Descriptor.{Descriptor}
+use Rattle.fields.specs.declared.Descriptor.{Descriptor}
 use Rattle.command.specs.Command.{noOperation, invalidateCache, metrics, loadCp, loadXf, loadIndexed, callList, loadBp, drawHead, vertex}
 
 -- a address, b number

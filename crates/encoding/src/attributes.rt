@@ -1,5 +1,5 @@
 // A vertex descriptor from five words, and decoded attributes as numbers.
-use layout::Descriptor;
+use fields::Descriptor;
 use vertex::Attribute;
 use vertex::Triple;
 ghost use mathlib.Core.Path.{_≡_};

@@ -1,8 +1,9 @@
-// The command that five words name; a vertex, which is never written, where they name none.
+// The command that five words name; a vertex, which is never written, where they name none. A unit as six words.
 use command::Command;
 ghost use mathlib.Core.Path.{_≡_};
 ghost use Rattle.command.specs.Command.{numbersOf};
 ghost use Rattle.encoding.specs.Named.{cpNamed, xfNamed, indexedNamed, bpNamed, drawNamed, commandBy, commandNamed};
+ghost use Rattle.encoding.specs.Told.{indexedKind, unitWords};
 
 // 08
 fn load_cp(address: u32, number: u32) -> Command
@@ -116,4 +117,48 @@ pub fn command(words: &[u32; 5]) -> Command
     ensures { λ r. ⌜ numbersOf r ≡ commandNamed (now (words .entry)) ⌝ }
 {
     command_by(words[0], words[1], words[2], words[3])
+}
+
+// The opcode of an indexed load of an array.
+fn indexed_kind(array: u8) -> u32
+    ensures { λ r. ⌜ r ≡ indexedKind array ⌝ }
+{
+    if array < 12 {
+        return 0x20;
+    }
+    0x20 + 8 * (array as u32 - 12)
+}
+
+// The six words of a unit: those of its command, and its bytes.
+pub fn unit_words(command: Command, memory: u32, n: u32) -> [u32; 6]
+    ensures { λ r. ⌜ r ≡ unitWords (numbersOf command) memory n ⌝ }
+{
+    match command {
+        Command::NoOperation => [0x00, 0, 0, 0, 0, n],
+        Command::InvalidateCache => [0x48, 0, 0, 0, 0, n],
+        Command::Metrics => [0x44, 0, 0, 0, 0, n],
+        Command::LoadCp { address, number } => [0x08, address as u32, number, 0, 0, n],
+        Command::LoadXf { words, address } => [0x10, words as u32, address as u32, 0, 0, n],
+        Command::LoadIndexed {
+            array,
+            index,
+            words,
+            address,
+        } => [
+            indexed_kind(array),
+            index as u32,
+            words as u32,
+            address as u32,
+            memory,
+            n,
+        ],
+        Command::CallList { address, size } => [0x40, address, size, 0, 0, n],
+        Command::LoadBp { register, number } => [0x61, register as u32, number, 0, 0, n],
+        Command::DrawHead {
+            primitive,
+            format,
+            count,
+        } => [0x80, primitive as u32, format as u32, count as u32, 0, n],
+        Command::Vertex => [0x01, 0, 0, 0, 0, n],
+    }
 }

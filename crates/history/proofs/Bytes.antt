@@ -1,10 +1,9 @@
 -- A feed of bytes leaves a ring of bytes.
 use mathlib.Core.List.{List, [], _∷_, _++_}
-use Prim.Native.Nat.{ℕ, zero, suc, _+_, _<_}
-use lib.Dec.{lit<}
+use Prim.Native.Nat.{ℕ, zero, suc, _+_}
 use lib.ListN.{length, take, drop}
 use Rattle.laws.proofs.Cases.{cond-both}
-use Rattle.octets.proofs.Number.{Octets}
+use Rattle.octets.proofs.Number.{Octets, octets-take, octets-drop}
 use Rattle.fifo.specs.declared.Fifo.{Fifo}
 use Rattle.queue.specs.Feeding.{put, putRound, fed, accepted, ringAfter}
 
@@ -13,27 +12,16 @@ append-octets [] b ha hb k = hb k
 append-octets (x ∷ a) b ha hb zero = ha 0
 append-octets (x ∷ a) b ha hb (suc k) = append-octets a b (λ i. ha (suc i)) hb k
 
-take-octets : (n : ℕ) (l : List ℕ) → Octets l → Octets (take n l)
-take-octets zero l h k = lit< tt
-take-octets (suc n) [] h k = lit< tt
-take-octets (suc n) (x ∷ l) h zero = h 0
-take-octets (suc n) (x ∷ l) h (suc k) = take-octets n l (λ i. h (suc i)) k
-
-drop-octets : (n : ℕ) (l : List ℕ) → Octets l → Octets (drop n l)
-drop-octets zero l h k = h k
-drop-octets (suc n) [] h k = lit< tt
-drop-octets (suc n) (x ∷ l) h k = drop-octets n l (λ i. h (suc i)) k
-
 put-octets : (ring : List ℕ) (at : ℕ) (bytes : List ℕ) → Octets ring → Octets bytes → Octets (put ring at bytes)
 put-octets ring at bytes o h =
-    append-octets (take at ring ++ bytes) (drop (at + length bytes) ring) (append-octets (take at ring) bytes (take-octets at ring o) h)
-    (drop-octets (at + length bytes) ring o)
+    append-octets (take at ring ++ bytes) (drop (at + length bytes) ring) (append-octets (take at ring) bytes (octets-take ring at o) h)
+    (octets-drop ring (at + length bytes) o)
 
 round-octets : (ring : List ℕ) (at straight : ℕ) (bytes : List ℕ) → Octets ring → Octets bytes → Octets (putRound ring at straight bytes)
 unfolding putRound
 round-octets ring at straight bytes o h =
     put-octets (put ring at (take straight bytes)) 0 (drop straight bytes)
-    (put-octets ring at (take straight bytes) o (take-octets straight bytes h)) (drop-octets straight bytes h)
+    (put-octets ring at (take straight bytes) o (octets-take bytes straight h)) (octets-drop bytes straight h)
 
 pub fed-octets : (f : Fifo) (ring bytes : List ℕ) → Octets ring → Octets bytes → Octets (ringAfter f ring bytes)
 unfolding ringAfter fed

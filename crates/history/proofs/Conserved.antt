@@ -11,6 +11,7 @@ use lib.Dec.{eqb, leb}
 use lib.ListN.{length, drop, length-append, length-drop}
 use borrow.Author.Tests.{eqb-true, leb-true, ne-eqb, le-ltb}
 use Rattle.laws.proofs.Cases.{cond-both, order, and-left, and-right}
+use Rattle.laws.proofs.Tests.{or-cases}
 use Rattle.fifo.specs.declared.Fifo.{Fifo}
 use Rattle.fifo.specs.declared.Window.{Window}
 use Rattle.fifo.specs.Window.{countOf}
@@ -26,10 +27,6 @@ use Rattle.history.specs.Promises.{Conserved, ListedHarmless}
 use Rattle.history.proofs.Flow.{Flows, flow-found, flow-run}
 
 -- ---- a write of control, clear or a mark leaves the queue
-or-cases : (a b : Bool) → (a || b) ≡ true → (a ≡ true) ⊎ (b ≡ true)
-or-cases true b e = inl refl
-or-cases false b e = inr e
-
 -- a mark is one of the words 2 and 3
 mark : (o : ℕ) → 0x28 ≤ o → o ≤ 0x2F → (wordAt o ≡ 2) ⊎ (wordAt o ≡ 3)
 mark o lo hi = ⊎-elim (λ h. inl (omega (arith, h))) (λ h. inr (omega (arith, h))) (order o 0x2C)

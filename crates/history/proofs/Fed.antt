@@ -21,10 +21,10 @@ use Rattle.queue.specs.Feeding.{accepted, bytesAccepted, fifoAfter, ringAfter}
 use Rattle.fifo.proofs.WindowLaws.{true-ready}
 use Rattle.queue.proofs.FeedLaws.{Fits, accepted-fits, pending-after, ready-after, refused-left}
 use Rattle.fifo.specs.Window.{accept}
-use Rattle.processor.specs.State.{State}
-use Rattle.processor.specs.Gate.{stateFits, gateBy, gateOf}
+use Rattle.machine.specs.State.{State}
+use Rattle.machine.specs.Gate.{stateFits, gateBy, gateOf}
 use Rattle.processor.specs.Step.{lookAt, executed, stepFound, stepOf, Runnable}
-use Rattle.processor.proofs.Passing.{Passes, gate-passes}
+use Rattle.machine.proofs.Passing.{Passes, gate-passes}
 use Rattle.running.proofs.Waiting.{lacking-fits}
 use Rattle.history.specs.Calls.{World, feed, after}
 use Rattle.history.specs.More.{Longer}

@@ -10,13 +10,13 @@ use Rattle.command.specs.Command.{Found, unit, waiting, refused}
 use Rattle.command.proofs.Refusals.{unless-unit}
 use Rattle.queue.proofs.CursorLaws.{reads-pending}
 use Rattle.queue.proofs.Pending.{length-pending}
-use Rattle.processor.specs.State.{State}
-use Rattle.processor.specs.Gate.{gateOf}
+use Rattle.machine.specs.State.{State}
+use Rattle.machine.specs.Gate.{gateOf}
 use Rattle.processor.specs.Step.{queueOf, lookAt, executed, stepFound, stepOf}
 use Rattle.processor.specs.Step as S
 use Rattle.running.specs.Run.{Taken, runOf}
 use Rattle.running.proofs.Invariant.{run-holds}
-use Rattle.processor.proofs.Passing.{Passes, gate-passes}
+use Rattle.machine.proofs.Passing.{Passes, gate-passes}
 use Rattle.processor.proofs.Bridge.{unit-fits}
 use Rattle.history.specs.Calls.{after, answered, consumedBy}
 

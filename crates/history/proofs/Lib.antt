@@ -7,3 +7,4 @@ pub mod Fed
 pub mod Feeds
 pub mod Passes
 pub mod Loading
+pub mod Rewritten

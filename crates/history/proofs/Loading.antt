@@ -18,10 +18,10 @@ use Rattle.command.proofs.Refusals.{unless-waiting}
 use Rattle.command.proofs.Waiting.{waiting-promises}
 use Rattle.fifo.proofs.WindowLaws.{true-ready}
 use Rattle.queue.specs.Feeding.{roomOf, feedRefusal, accepted, bytesAccepted}
-use Rattle.processor.specs.State.{State}
-use Rattle.processor.specs.Gate.{gateOf}
+use Rattle.machine.specs.State.{State}
+use Rattle.machine.specs.Gate.{gateOf}
 use Rattle.processor.specs.Step.{lookAt, stepFound, stepOf}
-use Rattle.processor.proofs.Passing.{gate-passes}
+use Rattle.machine.proofs.Passing.{gate-passes}
 use Rattle.running.specs.Run.{runOf}
 use Rattle.running.proofs.Invariant.{none-run}
 use Rattle.running.proofs.Waiting.{lacking-fits}

@@ -15,12 +15,12 @@ use Rattle.command.proofs.Prefix.{look-prefix}
 use Rattle.effect.specs.Effect.{cpAfter, bpAfter, drawAfter}
 use Rattle.queue.proofs.CursorLaws.{reads-pending}
 use Rattle.queue.proofs.Pending.{length-pending}
-use Rattle.processor.specs.State.{State}
-use Rattle.processor.specs.Gate.{gateOf}
+use Rattle.machine.specs.State.{State}
+use Rattle.machine.specs.Gate.{gateOf}
 use Rattle.processor.specs.Step.{queueOf, lookAt, executed, stepFound, stepOf, Runnable}
 use Rattle.processor.specs.Step as S
 use Rattle.running.specs.Run.{Taken, Ended, goneOn, steps, gated, runLimit, runOf}
-use Rattle.processor.proofs.Passing.{passes-gate}
+use Rattle.machine.proofs.Passing.{passes-gate}
 use Rattle.processor.proofs.Bridge.{unit-fits}
 use Rattle.processor.proofs.Valid.{runs-on}
 use Rattle.history.specs.More.{Longer, NotWaiting, SameRun}

@@ -10,7 +10,7 @@ use Rattle.fifo.specs.declared.Fifo.{Fifo}
 use Rattle.fifo.specs.Window.{countOf}
 use Rattle.queue.specs.Feeding.{bytesAccepted, fifoAfter, ringAfter}
 use Rattle.fifo.specs.Registers.{writable, written}
-use Rattle.processor.specs.State.{State}
+use Rattle.machine.specs.State.{State}
 use Rattle.processor.specs.Step.{queueOf, stepFound, stepOf}
 use Rattle.running.specs.Run.{Taken, runOf}
 

@@ -3,8 +3,8 @@ use mathlib.Core.Path.{_≡_}
 use mathlib.Core.List.{List, _∷_, [], _++_}
 use Prim.Native.Nat.{ℕ}
 use lib.ListN.{length}
-use Rattle.processor.specs.State.{State}
-use Rattle.processor.specs.Gate.{gateOf}
+use Rattle.machine.specs.State.{State}
+use Rattle.machine.specs.Gate.{gateOf}
 use Rattle.processor.specs.Step.{queueOf}
 use Rattle.running.specs.Run.{Ended}
 

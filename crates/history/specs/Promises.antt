@@ -1,7 +1,7 @@
 -- What several calls promise together: each type here is the statement of the theorem that has its name in `proofs/`.
 use mathlib.Core.Path.{_≡_}
 use mathlib.Core.Bool.{true}
-use mathlib.Core.List.{List, _∷_, map}
+use mathlib.Core.List.{List, _∷_, _++_, map}
 use Prim.Native.Nat.{ℕ, _+_, _-_, _*_, _<_, _≤_}
 use lib.ListN.{length, take, drop}
 use Rattle.octets.specs.BigEndian.{Octets}
@@ -12,14 +12,16 @@ use Rattle.command.specs.declared.Draw.the-variants.{Closed}
 use Rattle.command.specs.Command.{unit, waiting, kindOf, fieldOf, numbersOf}
 use Rattle.command.specs.Look.{descriptorOf}
 use Rattle.command.specs.Prefix.{Settled}
-use Rattle.writer.specs.Write.{commandBytes}
+use Rattle.writer.specs.Write.{wordsOf, commandBytes}
+use Rattle.writer.specs.Write as Write
 use Rattle.writer.specs.Widths.{Typed, reported}
 use Rattle.writer.specs.Back.{Writable, WordsFit}
+use Rattle.writer.specs.Again.{lowered}
 use Rattle.fifo.specs.Window.{Ready, sizeOf}
 use Rattle.queue.specs.Feeding.{accepted}
 use Rattle.queue.specs.Promises.{joined}
-use Rattle.processor.specs.State.{State}
-use Rattle.processor.specs.Step.{stepFound, stepOf, Runnable}
+use Rattle.machine.specs.State.{State}
+use Rattle.processor.specs.Step.{queueOf, stepFound, stepOf, Runnable}
 use Rattle.running.specs.Run.{runOf}
 use Rattle.history.specs.Calls.{World, Call, feed, queue, countAt, after, fed, afterAll, fedAll, unitsAll, consumedBy}
 use Rattle.history.specs.Calls.{AllHarmless, AllListed}
@@ -78,6 +80,27 @@ abbrev pub StepWords : Type 0
 StepWords =
     (w : World) (n address : ℕ) (words : List ℕ) → WrittenAlone w (LoadXf n address) words → WordsFit words
     → take n (drop address (stepOf (w .ring) (w .state) .xf)) ≡ words
+
+-- the words of the command c that a taking took: an XF load's are those that the taking left in the XF memory, as many as it names, from
+-- its address on; another command has none
+abbrev pub wordsLeft : World → List ℕ → List ℕ
+wordsLeft w c = take (wordsOf c) (drop (fieldOf c 2) (stepOf (w .ring) (w .state) .xf))
+
+-- the command c of a taking that consumed n bytes, the first of the queue, which had as many: the writer takes it with those words, and
+-- writes those bytes, an XF length below 16, with no refusal wherever there is room for n bytes
+pub record WrittenBack (w : World) (c : List ℕ) (n : ℕ) : Type 0 where
+  pub consumed : queue w ≡ take n (queue w) ++ queueOf (w .ring) (stepOf (w .ring) (w .state))
+  pub many : length (take n (queue w)) ≡ n
+  pub taken : Writable c (wordsLeft w c)
+  pub bytes-are : commandBytes c (wordsLeft w c) ≡ lowered c (take n (queue w))
+  pub unrefused : (room : ℕ) → n ≤ room → Write.refusalOf c (wordsLeft w c) room ≡ 0
+
+-- "Writing a command read from the stream gives its bytes back, save that an XF length is written below 16": of every unit that a taking
+-- takes, but a vertex, which the writer refuses by 18 (proofs/Rewritten)
+abbrev pub StepRewritten : Type 0
+StepRewritten =
+    (w : World) → Octets (w .ring) → (c : List ℕ) (m n : ℕ) → stepFound (w .ring) (w .state) ≡ unit c m n → (kindOf c ≡ 0x01 → ⊥)
+    → WrittenBack w c n
 
 -- pieces that are fed in a row, a call for each, and one feed of all their bytes: every byte is accepted, and the world left is the same
 pub record FedAlike (w : World) (ps : List (List ℕ)) : Type 0 where

@@ -3,7 +3,7 @@ use Prim.Native.Nat.{ℕ, _<_, _≤_}
 use mathlib.Core.Path.{_≡_, refl, sym}
 use mathlib.Core.Logic.{_⊎_, inl, inr}
 use mathlib.Core.Bool.{Bool, true, false, _&&_, _||_, false≢true, cond}
-use lib.Dec.{ltb}
+use lib.Dec.{T, ltb}
 use borrow.Author.Tests.{ltb-true, ltb-false}
 
 -- what holds of both arms of a `cond`, each under its test, holds of the `cond`
@@ -11,10 +11,10 @@ pub cond-both : {A : Type 0} (P : A → Type 0) (t : Bool) {x y : A} → (t ≡ 
 cond-both P true f g = f refl
 cond-both P false f g = g refl
 
--- a function of a `cond` is a `cond` of the function
-pub cond-map : {A B : Type 0} (f : A → B) (t : Bool) (x y : A) → f (cond t x y) ≡ cond t (f x) (f y)
-cond-map f true x y = refl
-cond-map f false x y = refl
+-- a test that holds is true
+pub is-true : (t : Bool) → T t → t ≡ true
+is-true true h = refl
+is-true false h = absurd h
 
 -- every test holds or not
 pub tested : (t : Bool) → (t ≡ true) ⊎ (t ≡ false)

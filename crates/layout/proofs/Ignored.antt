@@ -1,120 +1,22 @@
 -- "VCD bits not named here are kept and ignored": descriptors that differ in such bits alone have the same layout.
-use mathlib.Core.Path.{_≡_, refl, sym, ap, _∙_}
-use mathlib.Core.Bool.{Bool, true, false, cond}
-use mathlib.Core.Logic.{⊎-elim}
-use mathlib.Core.List.{List}
-use Prim.Native.Nat.{ℕ, zero, suc, _+_, _-_, _/_, _%_, _^_, _<_, _≤_}
-use native.Mathlib.Omega.{arith}
-use lib.Dec.{T, leb, ltb, lit≤}
-use lib.ListN.{getD}
-use lib.Pow.{field, mod-mod-pow}
-use borrow.Author.Tests.{lt-ltb, le-ltb, leb-true}
+use mathlib.Core.Path.{_≡_, refl}
+use Prim.Native.Nat.{ℕ, zero, suc, min}
 use Rattle.laws.specs.Values.{upTo}
-use Rattle.laws.proofs.Cases.{order}
-use Rattle.laws.proofs.Table.{every, at, both, both-left, both-right}
-use Rattle.layout.specs.declared.Descriptor.{Descriptor}
+use Rattle.fields.specs.declared.Descriptor.{Descriptor}
 use Rattle.layout.specs.declared.Layout.{Layout}
-use Rattle.layout.specs.Fields.{bitsAt, none, placeIn, modes, counts, formats, shifts}
-use Rattle.layout.specs.Fields.{modeOf, countOf, formatOf, fractionOf, indicesOf, Alike}
+use Rattle.layout.specs.declared.Extent.{Extent}
+use Rattle.layout.specs.declared.Spot.{Spot}
+use Rattle.fields.specs.Fields.{Alike}
+use Rattle.fields.proofs.Ignored.{mode-alike, count-alike, format-alike, indices-alike}
 use Rattle.layout.specs.Sizes.{sizeOf, offsetOf, unknownAt, anyUnknown}
-use Rattle.layout.specs.Answers.{refusalOf, lengthOf, Laid}
-
--- bits below t do not depend on what stands from bit t on
-pub low-bits : (x t s w : ℕ) → s + w ≤ t → x % 2 ^ t / 2 ^ s % 2 ^ w ≡ x / 2 ^ s % 2 ^ w
-low-bits x t s w h =
-    let e : t ≡ t - s - w + w + s = omega arith in
-    ap (λ (y : ℕ). x % 2 ^ y / 2 ^ s % 2 ^ w) e
-    ∙ ap (λ (y : ℕ). y % 2 ^ w) (field x (t - s - w + w) s)
-    ∙ mod-mod-pow (x / 2 ^ s) (t - s - w) w
-
-same-low : (x y t s w : ℕ) → x % 2 ^ t ≡ y % 2 ^ t → s + w ≤ t → x / 2 ^ s % 2 ^ w ≡ y / 2 ^ s % 2 ^ w
-same-low x y t s w e h = sym (low-bits x t s w h) ∙ ap (λ (z : ℕ). z / 2 ^ s % 2 ^ w) e ∙ low-bits y t s w h
-
-pub is-true : (b : Bool) → T b → b ≡ true
-is-true true t = refl
-is-true false t = absurd t
-
--- whether w bits from a place on are named ones of the VCD
-abbrev within : ℕ → ℕ → Bool
-within p w = cond (leb (p + w) 17) true (both (leb 32 p) (leb (p + w) 48))
+use Rattle.layout.specs.Answers.{refusalOf, lengthOf, Laid, Measured, SpotOf}
+use Rattle.layout.specs.Promises.{LayoutPromises}
+use Rattle.layout.proofs.Bounds.{length-bounds}
 
 module _ (d e : Descriptor) (a : Alike d e) where
-  first : (p w : ℕ) → p + w ≤ 17 → bitsAt d p (2 ^ w) ≡ bitsAt e p (2 ^ w)
-  unfolding bitsAt
-  first p w h =
-      let z : p / 32 ≡ 0 = omega arith in
-      let r : p % 32 ≡ p = omega arith in
-      rw (z, r) (same-low (d .vcd0) (e .vcd0) 17 p w (a .vcd0-is) h)
-
-  second : (p w : ℕ) → 32 ≤ p → p + w ≤ 48 → bitsAt d p (2 ^ w) ≡ bitsAt e p (2 ^ w)
-  unfolding bitsAt
-  second p w l h =
-      let z : p / 32 ≡ 1 = omega arith in
-      let r : p % 32 ≡ p - 32 = omega arith in
-      rw (z, r) (same-low (d .vcd1) (e .vcd1) 16 (p - 32) w (a .vcd1-is) (omega arith))
-
-  -- a field of the VAT
-  vat : (p q : ℕ) → 64 ≤ p → bitsAt d p q ≡ bitsAt e p q
-  unfolding bitsAt
-  vat p q h =
-      let z : p / 32 ≡ suc (suc (p / 32 - 2)) = omega arith in
-      rw (z, a .vat0-is, a .vat1-is, a .vat2-is)
-
-  vcd : (p w : ℕ) → T (within p w) → bitsAt d p (2 ^ w) ≡ bitsAt e p (2 ^ w)
-  vcd p w = go (leb (p + w) 17) refl
-    where
-      go : (b : Bool) → leb (p + w) 17 ≡ b → T (cond b true (both (leb 32 p) (leb (p + w) 48))) → bitsAt d p (2 ^ w) ≡ bitsAt e p (2 ^ w)
-      go true f t = first p w (leb-true (p + w) 17 f)
-      go false f t =
-          second p w (leb-true 32 p (is-true _ (both-left (leb 32 p) (leb (p + w) 48) t)))
-          (leb-true (p + w) 48 (is-true _ (both-right (leb 32 p) (leb (p + w) 48) t)))
-
-  -- every field of the VAT stands past its first bit
-  vat-in : (table : List ℕ) (q : ℕ) → T (every (λ k. leb 64 (getD table k 0)) 21) → (k : ℕ)
-      → bitsAt d (placeIn table k) q ≡ bitsAt e (placeIn table k) q
-  vat-in table q t k =
-      ⊎-elim
-      (λ h.
-      rw (lt-ltb k 21 h)
-      (vat (getD table k 0) q (leb-true 64 (getD table k 0) (is-true _ (at (λ i. leb 64 (getD table i 0)) 21 t k h)))))
-      (λ h. rw (le-ltb k 21 h) (vat none q (lit≤ tt)))
-      (order k 21)
-
-  mode-in : (k w : ℕ) → T (within (getD modes k 0) w) → k < 21 → bitsAt d (placeIn modes k) (2 ^ w) ≡ bitsAt e (placeIn modes k) (2 ^ w)
-  mode-in k w t h = rw (lt-ltb k 21 h) (vcd (getD modes k 0) w t)
-
-  pub mode-alike : (k : ℕ) → modeOf d k ≡ modeOf e k
-  unfolding modeOf modes
-  mode-alike k = ⊎-elim below (λ h. rw (le-ltb k 21 h, vat none 2 (lit≤ tt), vat none 4 (lit≤ tt))) (order k 21)
-    where
-      below : k < 21 → modeOf d k ≡ modeOf e k
-      below h = go (ltb k 9) (at (λ i. within (getD modes i 0) (cond (ltb i 9) 1 2)) 21 tt k h)
-        where
-          go : (b : Bool) → T (within (getD modes k 0) (cond b 1 2))
-              → cond b (bitsAt d (placeIn modes k) 2) (bitsAt d (placeIn modes k) 4)
-              ≡ cond b (bitsAt e (placeIn modes k) 2) (bitsAt e (placeIn modes k) 4)
-          go true t = mode-in k 1 t h
-          go false t = mode-in k 2 t h
-
-  pub count-alike : (k : ℕ) → countOf d k ≡ countOf e k
-  unfolding countOf counts
-  count-alike k = vat-in counts 2 tt k
-
-  pub format-alike : (k : ℕ) → formatOf d k ≡ formatOf e k
-  unfolding formatOf formats
-  format-alike k = vat-in formats 8 tt k
-
-  pub fraction-alike : (k : ℕ) → fractionOf d k ≡ fractionOf e k
-  unfolding fractionOf shifts
-  fraction-alike k = rw (format-alike k, vat 94 2 (lit≤ tt), vat-in shifts 32 tt k)
-
-  pub indices-alike : (k : ℕ) → indicesOf d k ≡ indicesOf e k
-  unfolding indicesOf
-  indices-alike k = rw (count-alike 10, vat 95 2 (lit≤ tt))
-
   pub size-alike : (k : ℕ) → sizeOf d k ≡ sizeOf e k
   unfolding sizeOf
-  size-alike k = rw (mode-alike k, count-alike k, format-alike k, indices-alike k)
+  size-alike k = rw (mode-alike d e a k, count-alike d e a k, format-alike d e a k, indices-alike d e a k)
 
   pub offset-alike : (k : ℕ) → offsetOf d k ≡ offsetOf e k
   unfolding offsetOf
@@ -124,11 +26,11 @@ module _ (d e : Descriptor) (a : Alike d e) where
   unknown-alike : (n : ℕ) → anyUnknown d n ≡ anyUnknown e n
   unfolding anyUnknown unknownAt
   unknown-alike zero = refl
-  unknown-alike (suc n) = rw (unknown-alike n, mode-alike n, format-alike n)
+  unknown-alike (suc n) = rw (unknown-alike n, mode-alike d e a n, format-alike d e a n)
 
   pub refusal-alike : refusalOf d ≡ refusalOf e
   unfolding refusalOf
-  refusal-alike = rw (mode-alike 9, unknown-alike 21)
+  refusal-alike = rw (mode-alike d e a 9, unknown-alike 21)
 
   pub length-alike : lengthOf d ≡ lengthOf e
   unfolding lengthOf
@@ -139,8 +41,8 @@ module _ (d e : Descriptor) (a : Alike d e) where
   values-alike f g h zero = refl
   values-alike f g h (suc n) = rw (values-alike f g h n, h n)
 
-  -- what `lay_out` promises of one it promises of the other
-  pub laid-alike : (r : Layout) → Laid d r → Laid e r
+  -- what `lay_out`, `measure` and `find` promise of one they promise of the other
+  laid-alike : (r : Layout) → Laid d r → Laid e r
   laid-alike r l =
       record {
         answer-is = rw (← refusal-alike) (l .answer-is);
@@ -148,3 +50,28 @@ module _ (d e : Descriptor) (a : Alike d e) where
         sizes-is = rw (← refusal-alike, ← values-alike (sizeOf d) (sizeOf e) size-alike 21) (l .sizes-is);
         offsets-is = rw (← refusal-alike, ← values-alike (offsetOf d) (offsetOf e) offset-alike 21) (l .offsets-is);
       }
+
+  measured-alike : (r : Extent) → Measured d r → Measured e r
+  measured-alike r l =
+      record { answer-is = rw (← refusal-alike) (l .answer-is); length-is = rw (← length-alike) (l .length-is) }
+
+  found-alike : (k : ℕ) (r : Spot) → SpotOf d k r → SpotOf e k r
+  found-alike k r l =
+      record {
+        answer-is = rw (← refusal-alike) (l .answer-is);
+        length-is = rw (← length-alike) (l .length-is);
+        offset-is = rw (← offset-alike (min k 21)) (l .offset-is);
+      }
+
+pub layout-promises : LayoutPromises
+layout-promises =
+    record {
+      laid = laid-alike;
+      measured = measured-alike;
+      found = found-alike;
+      refusal-same = refusal-alike;
+      length-same = length-alike;
+      size-same = size-alike;
+      offset-same = offset-alike;
+      length-bounds = length-bounds;
+    }

@@ -2,9 +2,7 @@ pub mod Tests
 pub mod Bounds
 pub mod Meanings
 pub mod Ignored
-pub mod Modes
 pub mod Present
 pub mod Packed
 pub mod Weighed
 pub mod Sums
-pub mod Normals

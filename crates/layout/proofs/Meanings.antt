@@ -11,12 +11,12 @@ use Rattle.refusal.specs.Number.{number}
 use Rattle.refusal.specs.declared.Reason.{Reason}
 use Rattle.refusal.proofs.Injective.{number-injective}
 use Rattle.refusal.proofs.Positive.{number-some}
-use Rattle.layout.specs.declared.Descriptor.{Descriptor}
+use Rattle.fields.specs.declared.Descriptor.{Descriptor}
 use Rattle.layout.specs.declared.Layout.{Layout}
 use Rattle.layout.specs.declared.Extent.{Extent}
 use Rattle.layout.specs.declared.LayoutAnswer.{LayoutAnswer}
 use Rattle.layout.specs.declared.LayoutAnswer.the-variants.{Accepted, Refused}
-use Rattle.layout.specs.Fields.{modeOf}
+use Rattle.fields.specs.Fields.{modeOf}
 use Rattle.layout.specs.Sizes.{offsetOf, anyUnknown}
 use Rattle.layout.specs.Answers.{meaning, refusalOf, lengthOf, Laid, Filled, Emptied, Measured, MeasuredAs}
 

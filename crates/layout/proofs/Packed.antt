@@ -5,10 +5,10 @@ use native.Mathlib.Omega.{arith}
 use lib.Dec.{T, eqb}
 use borrow.Author.Tests.{eqb-true}
 use Rattle.component.specs.Component.{widthOf}
+use Rattle.laws.proofs.Cases.{is-true}
 use Rattle.laws.proofs.Table.{every, at}
 use Rattle.layout.specs.Sizes.{directOf}
 use Rattle.layout.specs.Inner.{halfByte}
-use Rattle.layout.proofs.Ignored.{is-true}
 
 -- entries that follow a rule of the count bit and the format
 packed : (h : ℕ → ℕ) (g : ℕ → ℕ → ℕ) → T (every (λ i. eqb (h i) (g (i % 2) (i / 2))) 16) → (c f : ℕ) → c < 2 → f < 8 → h (2 * f + c) ≡ g c f

@@ -12,15 +12,15 @@ use lib.ListN.{getD}
 use lib.Pow.{shl-exact, shr-shr, mod-pow-add, pow-pos}
 use lib.Count.{ones, ones-cat}
 use borrow.Author.Tests.{lt-ltb, eqb-true, ne-eqb}
-use Rattle.laws.proofs.Cases.{order}
+use Rattle.laws.proofs.Cases.{is-true, order}
 use Rattle.laws.proofs.Table.{at}
-use Rattle.layout.specs.declared.Descriptor.{Descriptor}
-use Rattle.layout.specs.Fields.{bitsAt, formats, modeOf, formatOf}
+use Rattle.fields.specs.declared.Descriptor.{Descriptor}
+use Rattle.fields.specs.Fields.{bitsAt, formats, modeOf, formatOf}
 use Rattle.layout.specs.Sizes.{sizeOf, offsetOf, unknownAt, anyUnknown}
 use Rattle.layout.specs.Inner.{AbsentFrom}
 use Rattle.layout.proofs.Tests.{size-matrix, size-absent, unknown-absent}
-use Rattle.layout.proofs.Ignored.{low-bits, is-true}
-use Rattle.layout.proofs.Modes.{matrix-mode, fore-mode, texture-mode}
+use Rattle.fields.proofs.Ignored.{low-bits}
+use Rattle.fields.proofs.Modes.{matrix-mode, fore-mode, texture-mode}
 
 -- bits below t are clear where all of them are
 clear : (x t s w : ℕ) → s + w ≤ t → x % 2 ^ t ≡ 0 → x / 2 ^ s % 2 ^ w ≡ 0

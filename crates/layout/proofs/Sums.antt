@@ -3,10 +3,10 @@ use mathlib.Core.Path.{_≡_}
 use mathlib.Core.List.{[], _∷_}
 use Prim.Native.Nat.{ℕ, _+_, _/_, _%_, _^_}
 use Rattle.laws.specs.Values.{upTo}
-use Rattle.layout.specs.declared.Descriptor.{Descriptor}
+use Rattle.fields.specs.declared.Descriptor.{Descriptor}
 use Rattle.layout.specs.declared.parts.Fore.{Fore}
 use Rattle.layout.specs.declared.parts.Textures.{Textures}
-use Rattle.layout.specs.Fields.{bitsAt, modes, modeOf}
+use Rattle.fields.specs.Fields.{bitsAt, modes, modeOf}
 use Rattle.layout.specs.Sizes.{sizeOf, offsetOf}
 use Rattle.layout.specs.Inner.{ForeOf, TexturesOf}
 use Rattle.layout.proofs.Tests.{sum-next}

@@ -1,29 +1,12 @@
 -- What the definitions say at each branch of the code.
 use mathlib.Core.Path.{_≡_, refl, ap, _∙_}
 use mathlib.Core.Bool.{Bool, false, _||_}
-use Prim.Native.Nat.{ℕ, zero, suc, _+_, _*_, _<_, _≤_}
-use native.Mathlib.Omega.{arith}
+use Prim.Native.Nat.{ℕ, _+_, _*_, _<_, _≤_}
 use native.Mathlib.Numerals.{add-one}
 use borrow.Author.Tests.{lt-ltb, le-ltb, eq-eqb, ne-eqb}
-use Rattle.layout.specs.declared.Descriptor.{Descriptor}
-use Rattle.layout.specs.Fields.{modeOf, countOf, formatOf, indicesOf, normalBits}
-use Rattle.layout.specs.Sizes.{colourWidth, directOf, modeSize, indexWidth, sizeOf, offsetOf, unknownAt, anyUnknown}
-
--- a colour of format 5 or above
-pub colour-wide : (f : ℕ) → 5 ≤ f → 4 ≡ colourWidth f
-colour-wide zero h = absurd (omega arith)
-colour-wide (suc zero) h = absurd (omega arith)
-colour-wide (suc (suc zero)) h = absurd (omega arith)
-colour-wide (suc (suc (suc zero))) h = absurd (omega arith)
-colour-wide (suc (suc (suc (suc zero)))) h = absurd (omega arith)
-colour-wide (suc (suc (suc (suc (suc n))))) h = refl
-
-pub normal-none : (f : ℕ) → 4 ≤ f → 0 ≡ normalBits f
-normal-none zero h = absurd (omega arith)
-normal-none (suc zero) h = absurd (omega arith)
-normal-none (suc (suc zero)) h = absurd (omega arith)
-normal-none (suc (suc (suc zero))) h = absurd (omega arith)
-normal-none (suc (suc (suc (suc n)))) h = refl
+use Rattle.fields.specs.declared.Descriptor.{Descriptor}
+use Rattle.fields.specs.Fields.{modeOf, countOf, formatOf, indicesOf}
+use Rattle.layout.specs.Sizes.{directOf, modeSize, indexWidth, sizeOf, offsetOf, unknownAt, anyUnknown}
 
 -- ---- the bytes of attribute k, by its mode
 pub size-matrix : (d : Descriptor) (k : ℕ) → k < 9 → sizeOf d k ≡ modeOf d k

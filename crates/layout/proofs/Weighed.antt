@@ -4,11 +4,12 @@ use mathlib.Core.Bool.{Bool, _||_}
 use Prim.Native.Nat.{ℕ, zero, suc, _+_, _/_, _%_, _^_, _<_, _≤_}
 use native.Mathlib.Omega.{arith}
 use lib.Dec.{lit≤, lit<}
-use Rattle.layout.specs.declared.Descriptor.{Descriptor}
+use Rattle.fields.specs.declared.Descriptor.{Descriptor}
 use Rattle.layout.specs.declared.parts.Part.{Part}
-use Rattle.layout.specs.Fields.{bitsAt, modes, counts, formats, modeOf, countOf, formatOf, indicesOf}
+use Rattle.fields.specs.Fields.{bitsAt, modes, counts, formats, modeOf, countOf, formatOf, indicesOf}
 use Rattle.layout.specs.Sizes.{directOf, sizeOf, unknownAt, anyUnknown}
-use Rattle.layout.specs.Inner.{normalIndices, AbsentFrom, WeighedBy, ForeOf, TexturesOf}
+use Rattle.fields.specs.Inner.{normalIndices}
+use Rattle.layout.specs.Inner.{AbsentFrom, WeighedBy, ForeOf, TexturesOf}
 use Rattle.layout.proofs.Tests.{size-other, any-next}
 use Rattle.layout.proofs.Present.{size-none, any-absent, matrices-known, fore-absent}
 

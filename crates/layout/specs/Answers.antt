@@ -8,13 +8,13 @@ use lib.ListN.{replicate}
 use Rattle.laws.specs.Values.{upTo}
 use Rattle.refusal.specs.Number.{number}
 use Rattle.refusal.specs.declared.Reason.{Reason}
-use Rattle.layout.specs.declared.Descriptor.{Descriptor}
+use Rattle.fields.specs.declared.Descriptor.{Descriptor}
 use Rattle.layout.specs.declared.Layout.{Layout}
 use Rattle.layout.specs.declared.LayoutAnswer.{LayoutAnswer}
 use Rattle.layout.specs.declared.Extent.{Extent}
 use Rattle.layout.specs.declared.Spot.{Spot}
 use Rattle.layout.specs.declared.LayoutAnswer.the-variants.{Accepted, Refused}
-use Rattle.layout.specs.Fields.{modeOf}
+use Rattle.fields.specs.Fields.{modeOf}
 use Rattle.layout.specs.Sizes.{sizeOf, offsetOf, anyUnknown}
 
 -- the numbers of a layout's answer: the refusal's alone, or 0
@@ -29,6 +29,10 @@ refusalOf d = cond (eqb (modeOf d 9) 0) 9 (cond (anyUnknown d 21) 10 0)
 -- no refusal
 abbrev pub acceptedOf : Descriptor → Bool
 acceptedOf d = eqb (refusalOf d) 0
+
+-- the most of "A vertex has 1 to 129 bytes"
+abbrev pub largestVertex : ℕ
+largestVertex = 129
 
 -- "A layout gives this length"; 0 where it is refused
 unfoldable pub lengthOf : Descriptor → ℕ

@@ -1,32 +1,24 @@
 -- For the code's own functions: nothing here is part of what a layout is.
 use mathlib.Core.Path.{_≡_}
-use mathlib.Core.Bool.{Bool, false, cond, _&&_}
+use mathlib.Core.Bool.{Bool, false, cond}
 use Prim.Native.Nat.{ℕ, _*_, _/_, _%_, _^_, _<_, _≤_}
 use lib.Dec.{leb, eqb}
-use Rattle.layout.specs.declared.Descriptor.{Descriptor}
-use Rattle.layout.specs.declared.Vat.{Vat}
+use Rattle.fields.specs.declared.Descriptor.{Descriptor}
 use Rattle.layout.specs.declared.measuring.Sum.{Sum}
 use Rattle.layout.specs.declared.parts.Part.{Part}
 use Rattle.layout.specs.declared.parts.Fore.{Fore}
 use Rattle.layout.specs.declared.parts.Textures.{Textures}
-use Rattle.layout.specs.Fields.{bitsAt, placeIn, shifts, modeOf, countOf, formatOf}
-use Rattle.layout.specs.Sizes.{isColour, directOf, indexWidth, sizeOf, offsetOf, anyUnknown}
+use Rattle.fields.specs.Fields.{modeOf}
+use Rattle.fields.specs.Components.{isColour}
+use Rattle.layout.specs.Sizes.{directOf, indexWidth, sizeOf, offsetOf, anyUnknown}
 
 -- the descriptor of five words
 abbrev pub asked : ℕ → ℕ → ℕ → ℕ → ℕ → Descriptor
 asked a b c e f = record { vcd0 = a; vcd1 = b; vat0 = c; vat1 = e; vat2 = f }
 
--- what the VAT says of attribute k
-abbrev pub vatOf : Descriptor → ℕ → Vat
-vatOf d k = record { count = countOf d k; format = formatOf d k; shift = bitsAt d (placeIn shifts k) 32 }
-
 -- entry i of a table of half bytes
 abbrev pub halfByte : ℕ → ℕ → ℕ
 halfByte table i = table / 2 ^ (4 * i) % 16
-
--- the indices of a normal by group 0 of the VAT
-abbrev pub normalIndices : ℕ → ℕ
-normalIndices vat0 = cond (eqb (vat0 / 2 ^ 9 % 2) 1 && eqb (vat0 / 2 ^ 31 % 2) 1) 3 1
 
 -- what an attribute adds by its mode, with so many bytes or so many indices, and in no format or not
 pub record PartBy (mode direct indices : ℕ) (none : Bool) (r : Part) : Type 0 where

@@ -1,4 +1,4 @@
-pub mod Fields
 pub mod Sizes
 pub mod Answers
 pub mod Inner
+pub mod Promises

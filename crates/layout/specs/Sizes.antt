@@ -1,27 +1,11 @@
 -- The bytes of each attribute, and which formats are none.
 use mathlib.Core.Bool.{Bool, false, cond, _||_}
-use Prim.Native.Nat.{ℕ, zero, suc, _+_, _-_, _*_, _%_}
+use Prim.Native.Nat.{ℕ, zero, suc, _+_, _-_, _*_}
 use lib.Dec.{leb, ltb, eqb}
 use Rattle.component.specs.Component.{widthOf}
-use Rattle.layout.specs.declared.Descriptor.{Descriptor}
-use Rattle.layout.specs.Fields.{modeOf, countOf, formatOf, indicesOf}
-
--- "colours 0 and 1"
-abbrev pub isColour : ℕ → Bool
-isColour k = eqb k 11 || eqb k 12
-
--- "Position has 2 or 3 components, texture 1 or 2, normal 3 or 9", by the count bit
-abbrev pub componentsOf : ℕ → ℕ → ℕ
-componentsOf k count = cond (eqb k 9) (2 + count % 2) (cond (eqb k 10) (3 + 6 * (count % 2)) (1 + count % 2))
-
--- "Colour formats 0 to 5 have 2, 3, 4, 2, 3, 4 bytes whatever the count bit"; formats above, which no accepted layout has, count as 4
-abbrev pub colourWidth : ℕ → ℕ
-colourWidth zero = 2
-colourWidth (suc zero) = 3
-colourWidth (suc (suc zero)) = 4
-colourWidth (suc (suc (suc zero))) = 2
-colourWidth (suc (suc (suc (suc zero)))) = 3
-colourWidth (suc (suc (suc (suc (suc n))))) = 4
+use Rattle.fields.specs.declared.Descriptor.{Descriptor}
+use Rattle.fields.specs.Fields.{modeOf, countOf, formatOf, indicesOf}
+use Rattle.fields.specs.Components.{isColour, componentsOf, colourWidth}
 
 -- the bytes of a direct attribute
 unfoldable pub directOf : ℕ → ℕ → ℕ → ℕ

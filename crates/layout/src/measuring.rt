@@ -1,11 +1,12 @@
 // The length of a vertex without its parts, and where one attribute starts.
-use crate::Descriptor;
 use crate::Extent;
 use crate::LayoutAnswer;
 use crate::Spot;
 use crate::parts;
 use crate::parts::Fore;
 use crate::parts::Textures;
+use fields::Descriptor;
+use fields::attributes;
 use refusal::Reason;
 ghost use mathlib.Core.Path.{_≡_};
 ghost use mathlib.Core.Bool.{cond};
@@ -14,6 +15,9 @@ ghost use Rattle.refusal.specs.Number.{number};
 ghost use Rattle.layout.specs.Sizes.{offsetOf};
 ghost use Rattle.layout.specs.Answers.{Measured, MeasuredAs, SpotOf};
 ghost use Rattle.layout.specs.Inner.{ForeOf, TexturesOf, SumOf};
+
+// The matrices stand before the position.
+const MATRICES: u32 = attributes::POSITION as u32;
 
 // The bytes of all attributes, and of the matrices among them.
 pub struct Sum {
@@ -34,10 +38,10 @@ fn before(d: Descriptor, k: usize, fore: Fore, textures: Textures) -> u32
     requires { ⌜ ForeOf d fore × TexturesOf d textures ⌝ }
     ensures { λ r. ⌜ (k ≤ 21 → r ≡ offsetOf d k) ⌝ }
 {
-    if k < 9 {
+    if k < attributes::POSITION {
         return matrices(d, k as u32);
     }
-    let at9 = matrices(d, 9);
+    let at9 = matrices(d, MATRICES);
     let at10 = at9 + fore.position;
     let at11 = at10 + fore.normal;
     let at12 = at11 + fore.colour0;
@@ -50,18 +54,18 @@ fn before(d: Descriptor, k: usize, fore: Fore, textures: Textures) -> u32
     let at19 = at18 + textures.texture5;
     let at20 = at19 + textures.texture6;
     match k {
-        9 => at9,
-        10 => at10,
-        11 => at11,
-        12 => at12,
-        13 => at13,
-        14 => at14,
-        15 => at15,
-        16 => at16,
-        17 => at17,
-        18 => at18,
-        19 => at19,
-        20 => at20,
+        attributes::POSITION => at9,
+        attributes::NORMAL => at10,
+        attributes::COLOUR0 => at11,
+        attributes::COLOUR1 => at12,
+        attributes::TEXTURE0 => at13,
+        attributes::TEXTURE1 => at14,
+        attributes::TEXTURE2 => at15,
+        attributes::TEXTURE3 => at16,
+        attributes::TEXTURE4 => at17,
+        attributes::TEXTURE5 => at18,
+        attributes::TEXTURE6 => at19,
+        attributes::TEXTURE7 => at20,
         _ => at20 + textures.texture7,
     }
 }
@@ -81,7 +85,7 @@ fn total(d: Descriptor, fore: Fore, textures: Textures) -> Sum
             matrices: 0,
         };
     }
-    let first = matrices(d, 9);
+    let first = matrices(d, MATRICES);
     let all = first + sum;
     Sum {
         bytes: all,
@@ -145,7 +149,11 @@ pub fn measure(d: Descriptor) -> Extent
 fn capped(k: usize) -> usize
     ensures { λ r. ⌜ r ≡ min k 21 ⌝ }
 {
-    if k < 21 { k } else { 21 }
+    if k < attributes::COUNT {
+        k
+    } else {
+        attributes::COUNT
+    }
 }
 
 // The length of a vertex and where attribute k starts in it, or the reason why it has none; positions, which are asked for most, start
@@ -163,7 +171,7 @@ pub fn find(d: Descriptor, k: usize) -> Spot
     let sum = total(d, fore, textures);
     let extent = measured(d, textures, sum.bytes);
     let answer = extent.answer;
-    if k == 9 {
+    if k == attributes::POSITION {
         return Spot {
             answer,
             length: extent.length,

@@ -1,10 +1,11 @@
 // The bytes of the attributes that are no matrices: each field is read at its own place, and absent groups need no look.
-use crate::Descriptor;
-use crate::colour_width;
+use fields::Descriptor;
+use fields::colour_width;
+use fields::normal_indices;
 ghost use mathlib.Core.Path.{_≡_};
 ghost use Prim.Native.Nat.{_+_, _*_, _<_};
 ghost use Rattle.layout.specs.Sizes.{anyUnknown};
-ghost use Rattle.layout.specs.Inner.{asked, halfByte, normalIndices, AbsentFrom, PartBy, WeighedBy, ForeOf, TexturesOf};
+ghost use Rattle.layout.specs.Inner.{asked, halfByte, AbsentFrom, PartBy, WeighedBy, ForeOf, TexturesOf};
 
 // What one attribute adds: its bytes, and whether it is present in a format that is none.
 pub struct Part {
@@ -110,19 +111,6 @@ fn texture(mode: u32, count: u32, format: u32) -> Part
         1,
         5 <= format,
     )
-}
-
-// Three indices for a normal whose count bit and group 0 bit 31 are both set.
-pub fn normal_indices(vat0: u32) -> u32
-    ensures { λ r. ⌜ (r ≡ normalIndices vat0) × (r < 4) ⌝ }
-{
-    if (vat0 >> 9) % 2 != 1 {
-        return 1;
-    }
-    if (vat0 >> 31) % 2 != 1 {
-        return 1;
-    }
-    3
 }
 
 // The attributes in group 0 of the VAT; normal and colours are not looked at where their six bits are clear.

@@ -5,7 +5,7 @@ use mathlib.Core.Bool.{Bool, true, false, cond, _&&_, _||_}
 use mathlib.Core.List.{List}
 use Prim.Native.Nat.{ℕ, _<_}
 use lib.Dec.{lit<}
-use lib.Bits.{bitOr, or-lt, or-zero-l}
+use lib.Bits.{bitOr, or-lt}
 use lib.ListN.{length, getD}
 use lib.Seq.{ext-getD}
 use Rattle.laws.specs.Bits.{bit}
@@ -16,7 +16,7 @@ use Rattle.effect.specs.Effect.{masked, maskPlace}
 use Rattle.patch.specs.Patch.{bpCount, Patch, maskAt, numberAt, IsAccepted, appliedTo, mergedOf, blank}
 use Rattle.patch.specs.Registers.{Open, AgreeAt, Agree}
 use Rattle.patch.proofs.Faults.{Sound, sound, accepted}
-use Rattle.patch.proofs.Masked.{masked-bit, masked-lt, masked-none, masked-zero, masked-masked, masked-swap, masked-inside, or-assoc}
+use Rattle.patch.proofs.Masked.{masked-bit, masked-lt, masked-none, masked-masked, masked-swap, masked-inside, or-assoc}
 
 -- ---- register by register
 
@@ -125,24 +125,6 @@ merged-assoc a b c pa pb pc =
           (λ r. masked (numberAt a r) (maskAt (mergedOf b c) r) (numberAt (mergedOf b c) r)) bpCount
           (λ r l. rw (merged-number r l a b, merged-mask r l b c, merged-number r l b c)
           (sym (masked-masked (numberAt a r) (maskAt b r) (numberAt b r) (maskAt c r) (numberAt c r) (hb .small r l) (hc .small r l)))) i;
-    }
-
--- merged into all zeros a patch is itself
-pub merged-blank : (p : Patch) → IsAccepted p → mergedOf blank p ≡ p
-unfolding mergedOf
-merged-blank p ok =
-    let s = sound p ok in
-    let m : Patch = mergedOf blank p in
-    λ i.
-    record {
-      masks =
-          ext-getD 0 (m .masks) (p .masks) (length-upTo _ bpCount ∙ sym (s .masks-size))
-          (λ r h. let l : r < bpCount = rw (length-upTo (λ r. bitOr (maskAt blank r) (maskAt p r)) bpCount) at h in
-          merged-mask r l blank p ∙ rw (blank-mask r l) (or-zero-l (maskAt p r))) i;
-      numbers =
-          ext-getD 0 (m .numbers) (p .numbers) (length-upTo _ bpCount ∙ sym (s .numbers-size))
-          (λ r h. let l : r < bpCount = rw (length-upTo (λ r. masked (numberAt blank r) (maskAt p r) (numberAt p r)) bpCount) at h in
-          merged-number r l blank p ∙ rw (blank-number r l) (masked-zero (maskAt p r) (numberAt p r) (s .inside r l))) i;
     }
 
 -- ---- a merged patch is the two in turn

@@ -10,7 +10,6 @@ use lib.Dec.{lit<, lit≤}
 use lib.ListN.{length, getD, set, length-set}
 use lib.Seq.{ext-getD, getD-set-same, getD-set-other, set-set, set-comm, set-getD}
 use borrow.Author.Tests.{ne-eqb}
-use Rattle.command.specs.Command.{loadBp}
 use Rattle.effect.specs.Effect.{masked, maskPlace, storedBp, loadedBp, bpAfter}
 use Rattle.patch.specs.Patch.{bpCount, Patch, maskAt, numberAt, IsAccepted, AllAccepted}
 use Rattle.patch.specs.Patch.{appliedTo, mergedOf, blank, mergedFrom, mergedAll}
@@ -27,10 +26,6 @@ after-append [] ds bp = refl
 after-append (c ∷ cs) ds bp = after-append cs ds (bpAfter c bp)
 
 -- ---- a load of FE and a load of a register
-
-pub load-after : (bp : List ℕ) (r n : ℕ) → bpAfter (loadBp r n) bp ≡ loadedBp bp r n
-unfolding bpAfter
-load-after bp r n = refl
 
 -- a load of FE from FFFFFF
 load-mask : (bp : List ℕ) (m : ℕ) → getD bp maskPlace 0 ≡ 0xFFFFFF → m < 2 ^ 24 → loadedBp bp maskPlace m ≡ set bp maskPlace m
@@ -199,8 +194,3 @@ applied-two a b bp pa pb g =
 pub merged-swap : (a b : Patch) (bp : List ℕ) → IsAccepted a → IsAccepted b → Open bp
     → (appliedTo bp (mergedAll (a ∷ b ∷ [])) ≡ appliedTo bp (mergedAll (b ∷ a ∷ []))) ↔ Agree a b
 merged-swap a b bp pa pb g = rw (applied-two a b bp pa pb g, applied-two b a bp pb pa g) (applied-swap bp a b pa pb)
-
-pub executed-swap : (a b : Patch) (bp : List ℕ) → IsAccepted a → IsAccepted b → Open bp
-    → (bpAfterAll (commandsOfAll (a ∷ b ∷ [])) bp ≡ bpAfterAll (commandsOfAll (b ∷ a ∷ [])) bp) ↔ Agree a b
-executed-swap a b bp pa pb g =
-    rw (executed-all (a ∷ b ∷ []) bp (pa, (pb, tt)) g, executed-all (b ∷ a ∷ []) bp (pb, (pa, tt)) g) (merged-swap a b bp pa pb g)

@@ -8,3 +8,4 @@ pub mod Execution
 pub mod Stream
 pub mod Meanings
 pub mod Merges
+pub mod Promises

@@ -12,7 +12,8 @@ use Rattle.command.specs.Command.{loadBp}
 use Rattle.command.specs.declared.Draw.{Draw}
 use Rattle.effect.specs.Effect.{cpAfter, xfAfter, vertexAfter, drawAfter}
 use Rattle.writer.specs.declared.Written.{Written}
-use Rattle.writer.specs.Write.{headOf, wordsOf, wordBytes, commandBytes, unwritable, unaddressed, pastEnd, refusalOf, placed, Writes}
+use Rattle.writer.specs.Write.{headOf, wordsOf, wordBytes, commandBytes, refusalOf, placed, Writes}
+use Rattle.writable.specs.Writable.{unwritable, unaddressed, pastEnd}
 
 module _ (register n : ℕ) where
   pub load-bytes : commandBytes (loadBp register n) [] ≡ 0x61 ∷ register ∷ bytesOf 3 n

@@ -1,20 +1,17 @@
 -- "new = old outside m, number inside m", bit by bit, and what two masked stores come to. Registers have 24 bits.
-use mathlib.Core.Path.{_≡_, ap₂, refl, sym, ap, _∙_}
+use mathlib.Core.Path.{_≡_, refl, sym, ap, _∙_}
 use mathlib.Core.Logic.{_↔_}
 use mathlib.Core.Bool.{Bool, true, false, cond, _&&_, _||_}
 use Prim.Native.Nat.{ℕ, _^_, _<_}
 use native.Mathlib.Nat.{lt-of-le-of-lt}
-use lib.Dec.{T, lit<}
-use lib.Bits.{bitAnd, bitOr, bitXor, and-le-r, or-lt, xor-lt, and-zero-l, or-zero-l}
+use lib.Dec.{lit<}
+use lib.Bits.{bitAnd, bitOr, bitXor, and-le-r, or-lt, xor-lt}
 use Rattle.laws.specs.Bits.{bit, differs}
 use Rattle.laws.proofs.Bits.{bit-and, bit-or, bit-xor, bit-none, same-bits}
+use Rattle.laws.proofs.Cases.{is-true}
 use Rattle.laws.proofs.Table.{at}
 use Rattle.effect.specs.Effect.{masked}
 use Rattle.patch.specs.Registers.{AgreeAt}
-
-is-true : (b : Bool) → T b → b ≡ true
-is-true true t = refl
-is-true false t = absurd t
 
 bit-full : (k : ℕ) → k < 24 → bit k 0xFFFFFF ≡ true
 unfolding bit
@@ -50,11 +47,6 @@ masked-none old n h =
 pub masked-full : (old n : ℕ) → n < 2 ^ 24 → masked old 0xFFFFFF n ≡ n
 masked-full old n h =
     same-bits 24 (masked old 0xFFFFFF n) n (masked-lt old 0xFFFFFF n (lit< tt)) h (λ k l. simp (masked-bit, bit-full, l))
-
--- a number inside its mask, put over zero, is itself
-pub masked-zero : (mask n : ℕ) → bitAnd n mask ≡ n → masked 0 mask n ≡ n
-unfolding masked
-masked-zero mask n e = ap₂ bitOr (and-zero-l (bitXor 0xFFFFFF mask)) e ∙ or-zero-l n
 
 module _ (o m n m' n' : ℕ) (h : m < 2 ^ 24) (h' : m' < 2 ^ 24) where
   either : (a b x y z : Bool) → cond (a || b) (cond b y x) z ≡ cond b y (cond a x z)

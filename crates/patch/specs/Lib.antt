@@ -5,3 +5,4 @@ pub mod Answers
 pub mod Writing
 pub mod Stream
 pub mod Merging
+pub mod Promises

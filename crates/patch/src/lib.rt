@@ -6,8 +6,10 @@ pub use merging::merge;
 use refusal::Reason;
 use writer::Written;
 ghost use mathlib.Core.Path.{_≡_};
+ghost use mathlib.Core.Bool.{cond};
 ghost use Prim.Native.Nat.{_+_, _≤_, _<_, _^_};
 ghost use lib.ListN.{length};
+ghost use Rattle.refusal.specs.Number.{number};
 ghost use Rattle.patch.specs.Patch.{patchOf, faultAt, faultOf, IsAccepted};
 ghost use Rattle.patch.specs.Commands.{patchBytes};
 ghost use Rattle.patch.specs.Answers.{meaning, WritesPatch};
@@ -19,20 +21,37 @@ pub enum Checked {
     Refused(Reason),
 }
 
+// The first of three reasons whose test holds.
+fn first_of(a: bool, first: Reason, b: bool, second: Reason, c: bool, third: Reason) -> Checked
+    ensures { λ f. ⌜ meaning f ≡ cond a (number first) (cond b (number second) (cond c (number third) 0)) ⌝ }
+{
+    if a {
+        return Checked::Refused(first);
+    }
+    if b {
+        return Checked::Refused(second);
+    }
+    if c {
+        return Checked::Refused(third);
+    }
+    Checked::Accepted
+}
+
 // The fault of a register with its mask and number.
 fn fault_at(r: usize, mask: u32, number: u32) -> Checked
     ensures { λ f. ⌜ meaning f ≡ faultAt r mask number ⌝ }
 {
-    if (r == 0xFE) & ((mask != 0) | (number != 0)) {
-        return Checked::Refused(Reason::PatchOfMaskRegister);
-    }
-    if 0xFF_FFFF < mask {
-        return Checked::Refused(Reason::PatchMaskTooWide);
-    }
-    if number & mask != number {
-        return Checked::Refused(Reason::PatchNumberOutsideMask);
-    }
-    Checked::Accepted
+    let named = (r == 0xFE) & ((mask != 0) | (number != 0));
+    let wide = 0xFF_FFFF < mask;
+    let outside = number & mask != number;
+    first_of(
+        named,
+        Reason::PatchOfMaskRegister,
+        wide,
+        Reason::PatchMaskTooWide,
+        outside,
+        Reason::PatchNumberOutsideMask,
+    )
 }
 
 // Searches a patch by register, ascending; the search ends at the first fault.

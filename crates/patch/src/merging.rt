@@ -32,11 +32,12 @@ fn merge_all(
 {
     let mut r: usize = 0;
     while r < 256 {
+        let of_a = a_masks[r];
+        let of_b = b_masks[r];
         let a = a_numbers[r];
-        let mask = b_masks[r];
         let b = b_numbers[r];
-        masks[r] = a_masks[r] | mask;
-        numbers[r] = effect::replace_bits(a, mask, b);
+        masks[r] = of_a | of_b;
+        numbers[r] = effect::replace_bits(a, of_b, b);
         r += 1;
     }
 }

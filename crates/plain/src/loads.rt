@@ -61,7 +61,7 @@ fn take_load(bytes: &[u8], at: usize, xf: &mut [u32]) -> Passed
     }
     let words = octets::half(bytes[at + 1], bytes[at + 2]) % 16 + 1;
     let address = octets::half(bytes[at + 3], bytes[at + 4]);
-    if command::places::XF_COUNT < address as u32 + words as u32 {
+    if places::XF_COUNT < address as u32 + words as u32 {
         return Passed { units: 0, at };
     }
     take_words(bytes, at, xf, words, address)

@@ -17,12 +17,13 @@ use Rattle.queue.specs.Cursor.{opened, peeked}
 use Rattle.queue.proofs.CursorLaws.{reads-pending}
 use Rattle.queue.proofs.Pending.{length-pending}
 use Rattle.processor.specs.declared.StepAnswer.{StepAnswer}
-use Rattle.processor.specs.State.{State}
+use Rattle.machine.specs.State.{State}
 use Rattle.processor.specs.Step.{meaning, queueOf, lookAt, executed, after}
 use Rattle.processor.specs.Cursor.{seen, cursorBy, cpBy, bpBy, drawBy, xfBy, bufferBy, Takes}
 
 -- a unit taken at the state s, or none: the answer, the cursor, and the state
-pub record TakesUnit (ring : List ℕ) (s : State) (answer : StepAnswer) (cursor : Cursor) (draw : Draw) (cp bp xf buffer : List ℕ) : Type 0 where
+pub record TakesUnit (ring : List ℕ) (s : State) (answer : StepAnswer) (cursor : Cursor) (draw : Draw)
+    (cp bp xf buffer : List ℕ) : Type 0 where
   pub answer-is : meaning answer ≡ lookAt ring s
   pub cursor-is : cursor ≡ opened (after ring s (lookAt ring s) .fifo)
   pub state-is :
@@ -41,7 +42,8 @@ module _ (ring : List ℕ) (s : State) (ready : Ready (s .fifo) (length ring)) w
   pub seen-is : seen (opened (s .fifo)) ring (s .cp) (s .draw) ≡ lookAt ring s
   unfolding seen lookAt
   seen-is =
-      let e : opened (s .fifo) .left ≡ length (queueOf ring s) = reads-pending (s .fifo) ring ready .left-is ∙ sym (length-pending (s .fifo .window) ring) in
+      let e : opened (s .fifo) .left ≡ length (queueOf ring s) =
+      reads-pending (s .fifo) ring ready .left-is ∙ sym (length-pending (s .fifo .window) ring) in
       ap (λ (n : ℕ). lookOf (peeked (opened (s .fifo)) ring) n (s .cp) (s .draw)) e
       ∙ look-nine (peeked (opened (s .fifo)) ring) (queueOf ring s) peek-same (length (queueOf ring s)) (s .cp) (s .draw)
 
@@ -93,11 +95,13 @@ module _ (ring : List ℕ) (s : State) (ready : Ready (s .fifo) (length ring)) w
 
   -- what `take_at` leaves at the cursor of a ready fifo is the state after what was found
   pub takes-after : {answer : StepAnswer} {cursor : Cursor} {draw : Draw} {cp bp xf buffer : List ℕ}
-      → Takes (seen (opened (s .fifo)) ring (s .cp) (s .draw)) (opened (s .fifo)) ring (s .cp) (s .bp) (s .draw) (s .xf) (s .buffer) answer cursor draw cp bp xf buffer
+      → Takes (seen (opened (s .fifo)) ring (s .cp) (s .draw)) (opened (s .fifo)) ring (s .cp) (s .bp) (s .draw) (s .xf) (s .buffer)
+      answer cursor draw cp bp xf buffer
       → TakesUnit ring s answer cursor draw cp bp xf buffer
   takes-after {answer} {cursor} {draw} {cp} {bp} {xf} {buffer} t =
       let found : Found = lookAt ring s in
-      let u : Takes found (opened (s .fifo)) ring (s .cp) (s .bp) (s .draw) (s .xf) (s .buffer) answer cursor draw cp bp xf buffer = rw seen-is at t in
+      let u : Takes found (opened (s .fifo)) ring (s .cp) (s .bp) (s .draw) (s .xf) (s .buffer) answer cursor draw cp bp xf buffer =
+      rw seen-is at t in
       let p : cp ≡ after ring s found .cp = u .cp-is ∙ cp-moved found in
       let q : bp ≡ after ring s found .bp = u .bp-is ∙ bp-moved found in
       let d : draw ≡ after ring s found .draw = u .draw-is ∙ draw-moved found in

@@ -24,4 +24,5 @@ pub copied-is : (cursor : Cursor) (ring out : List ℕ) (n : ℕ) → n ≤ leng
 unfolding copied
 copied-is cursor ring out n h =
     let m : min n (length out) ≡ n = omega arith in
-    ap (λ (k : ℕ). take n (bytesAt cursor ring k ++ drop k out)) m ∙ take-at (bytesAt cursor ring n) (drop n out) n (length-upTo (byteOf cursor ring) n)
+    ap (λ (k : ℕ). take n (bytesAt cursor ring k ++ drop k out)) m
+    ∙ take-at (bytesAt cursor ring n) (drop n out) n (length-upTo (byteOf cursor ring) n)

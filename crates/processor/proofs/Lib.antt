@@ -1,7 +1,5 @@
-pub mod Below
 pub mod Bytes
 pub mod Found
-pub mod Passing
 pub mod Bridge
 pub mod Stays
 pub mod Valid

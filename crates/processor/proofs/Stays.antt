@@ -15,17 +15,18 @@ use Rattle.laws.proofs.Cases.{cond-both, order, and-left, and-right}
 use Rattle.command.specs.declared.Draw.{Draw}
 use Rattle.command.specs.declared.Draw.the-variants.{Closed, Open}
 use Rattle.command.specs.Command.{kindOf, fieldOf}
-use Rattle.command.specs.Places.{cpCount, vatPlace, cpPlace}
+use Rattle.places.specs.Places.{cpCount, vatPlace, cpPlace}
 use Rattle.command.proofs.Ranges.{Ranged}
 use Rattle.effect.specs.Effect.{keptOf, loadedCp, cpAfter, masked, maskPlace, storedBp, loadedBp, bpAfter, openedBy, countedDown, drawAfter}
-use Rattle.processor.specs.Gate.{allBelow, bpFits, basesOf, stridesOf, cpFits, drawFits}
-use Rattle.processor.proofs.Below.{below-at, below-set}
+use Rattle.machine.specs.Gate.{allBelow, bpFits, basesOf, stridesOf, cpFits, drawFits}
+use Rattle.machine.proofs.Below.{below-at, below-set}
 
 -- ---- BP registers stay within 24 bits
 pub masked-lt : (old m n : ℕ) → old < 2 ^ 24 → n < 2 ^ 24 → masked old m n < 2 ^ 24
 unfolding masked
 masked-lt old m n h k =
-    or-lt 24 (bitAnd old (bitXor 0xFFFFFF m)) (bitAnd n m) (lt-of-le-of-lt (and-le-l old (bitXor 0xFFFFFF m)) h) (lt-of-le-of-lt (and-le-l n m) k)
+    or-lt 24 (bitAnd old (bitXor 0xFFFFFF m)) (bitAnd n m)
+    (lt-of-le-of-lt (and-le-l old (bitXor 0xFFFFFF m)) h) (lt-of-le-of-lt (and-le-l n m) k)
 
 pub bp-stays : (c bp : List ℕ) → Ranged c → bpFits bp ≡ true → bpFits (bpAfter c bp) ≡ true
 unfolding bpFits bpAfter loadedBp storedBp
@@ -35,7 +36,8 @@ bp-stays c bp r h =
     let n : fieldOf c 2 < 2 ^ 24 = r .bp (eqb-true (kindOf c) 0x61 e) in
     let old : getD bp (fieldOf c 1) 0 < 2 ^ 24 = below-at (2 ^ 24) bp (lit< tt) h (fieldOf c 1) in
     let v : ℕ = masked (getD bp (fieldOf c 1) 0) (getD bp maskPlace 0) (fieldOf c 2) in
-    let s : allBelow (2 ^ 24) (set bp (fieldOf c 1) v) ≡ true = below-set (2 ^ 24) bp (fieldOf c 1) v h (masked-lt _ (getD bp maskPlace 0) _ old n) in
+    let s : allBelow (2 ^ 24) (set bp (fieldOf c 1) v) ≡ true =
+    below-set (2 ^ 24) bp (fieldOf c 1) v h (masked-lt _ (getD bp maskPlace 0) _ old n) in
     cond-both (λ (b : List ℕ). allBelow (2 ^ 24) b ≡ true) (eqb (fieldOf c 1) maskPlace) (λ _. s)
     (λ _. below-set (2 ^ 24) (set bp (fieldOf c 1) v) maskPlace 0xFFFFFF s (lit< tt)))
     (λ _. h)
@@ -76,7 +78,8 @@ keeps a n =
     none = (λ x y. absurd (omega (arith, y)), λ x y. absurd (omega (arith, y)))
 
 -- the first sixteen of a list, after a store anywhere
-front-set : (limit : ℕ) (l : List ℕ) (i v : ℕ) → allBelow limit (take 16 l) ≡ true → (i < 16 → v < limit) → allBelow limit (take 16 (set l i v)) ≡ true
+front-set : (limit : ℕ) (l : List ℕ) (i v : ℕ) → allBelow limit (take 16 l) ≡ true → (i < 16 → v < limit)
+    → allBelow limit (take 16 (set l i v)) ≡ true
 front-set limit l i v h f =
     ⊎-elim
     (λ lo. rw (take-set-lt 16 l i v lo) (below-set limit (take 16 l) i v h (f lo)))
@@ -96,7 +99,8 @@ part-set limit from l p v h f =
     later hi =
         let e : p ≡ from + (p - from) = omega arith in
         let near : p - from < 16 → v < limit = λ k. f hi (omega (arith, k)) in
-        let d : drop from (set l p v) ≡ set (drop from l) (p - from) v = ap (λ (k : ℕ). drop from (set l k v)) e ∙ drop-set-add from l (p - from) v in
+        let d : drop from (set l p v) ≡ set (drop from l) (p - from) v =
+        ap (λ (k : ℕ). drop from (set l k v)) e ∙ drop-set-add from l (p - from) v in
         rw d (front-set limit (drop from l) (p - from) v h near)
 
 pub cp-stays : (c cp : List ℕ) → cpFits cp ≡ true → cpFits (cpAfter c cp) ≡ true
@@ -105,8 +109,10 @@ cp-stays c cp h =
     let a : ℕ = fieldOf c 1 in
     let n : ℕ = fieldOf c 2 in
     let k = keeps a n in
-    let bases = part-set (2 ^ 26) 28 cp (cpPlace a) (keptOf a n) (and-left (allBelow (2 ^ 26) (basesOf cp)) (allBelow 256 (stridesOf cp)) h) (k .0) in
-    let strides = part-set 256 44 cp (cpPlace a) (keptOf a n) (and-right (allBelow (2 ^ 26) (basesOf cp)) (allBelow 256 (stridesOf cp)) h) (k .1) in
+    let bases =
+    part-set (2 ^ 26) 28 cp (cpPlace a) (keptOf a n) (and-left (allBelow (2 ^ 26) (basesOf cp)) (allBelow 256 (stridesOf cp)) h) (k .0) in
+    let strides =
+    part-set 256 44 cp (cpPlace a) (keptOf a n) (and-right (allBelow (2 ^ 26) (basesOf cp)) (allBelow 256 (stridesOf cp)) h) (k .1) in
     cond-both (λ (l : List ℕ). (allBelow (2 ^ 26) (basesOf l) && allBelow 256 (stridesOf l)) ≡ true) (eqb (kindOf c) 0x08)
     (λ _. cond-both (λ (l : List ℕ). (allBelow (2 ^ 26) (basesOf l) && allBelow 256 (stridesOf l)) ≡ true) (ltb (cpPlace a) cpCount)
     (λ _. rw (bases, strides)) (λ _. h))

@@ -16,10 +16,10 @@ use Rattle.queue.proofs.CursorLaws.{reads-pending}
 use Rattle.queue.proofs.Moves.{consume-none}
 use Rattle.processor.specs.declared.StepAnswer.{StepAnswer}
 use Rattle.processor.specs.declared.StepAnswer.the-variants.{Refused}
-use Rattle.processor.specs.State.{State, stateOf}
-use Rattle.processor.specs.Gate.{gateOf}
+use Rattle.machine.specs.State.{State, stateOf}
+use Rattle.machine.specs.Gate.{gateOf}
 use Rattle.processor.specs.Step.{lookAt, executed, after, stepFound, stepOf, Steps}
-use Rattle.processor.proofs.Passing.{Passes, gate-passes}
+use Rattle.machine.proofs.Passing.{Passes, gate-passes}
 use Rattle.processor.specs.Cursor.{seen}
 use Rattle.processor.proofs.Bridge.{TakesUnit, seen-is}
 

@@ -12,9 +12,9 @@ use Rattle.effect.proofs.Lengths.{length-xf, length-buffer}
 use Rattle.fifo.specs.Window.{consume}
 use Rattle.queue.proofs.Moves.{ready-consume}
 use Rattle.queue.proofs.Pending.{pending-each}
-use Rattle.processor.specs.State.{State}
+use Rattle.machine.specs.State.{State}
 use Rattle.processor.specs.Step.{queueOf, lookAt, executed, after, stepFound, stepOf, Runnable}
-use Rattle.processor.proofs.Passing.{Passes, gate-passes, passes-gate}
+use Rattle.machine.proofs.Passing.{Passes, gate-passes, passes-gate}
 use Rattle.processor.proofs.Stays.{bp-stays, cp-stays, draw-stays}
 
 -- pending bytes are bytes

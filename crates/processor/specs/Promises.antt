@@ -4,7 +4,7 @@ use mathlib.Core.List.{List}
 use Prim.Native.Nat.{ℕ}
 use Rattle.processor.specs.declared.StepAnswer.{StepAnswer}
 use Rattle.processor.specs.declared.taking.TakenUnit.{TakenUnit}
-use Rattle.processor.specs.State.{State, stateOf}
+use Rattle.machine.specs.State.{State, stateOf}
 use Rattle.processor.specs.Step.{meaning, after, stepFound, Steps}
 
 pub record LookThenTake : Type 0 where

@@ -14,8 +14,8 @@ use Rattle.queue.specs.Pending.{pending}
 use Rattle.processor.specs.declared.StepAnswer.{StepAnswer}
 use Rattle.processor.specs.declared.StepAnswer.the-variants.{Done, Waiting, Refused}
 use Rattle.processor.specs.declared.taking.TakenUnit.{TakenUnit}
-use Rattle.processor.specs.State.{State, stateOf}
-use Rattle.processor.specs.Gate.{gateOf}
+use Rattle.machine.specs.State.{State, stateOf}
+use Rattle.machine.specs.Gate.{gateOf}
 
 -- what an answer says
 abbrev pub meaning : StepAnswer → Found

@@ -1,12 +1,8 @@
-// The processor: the registers that ports share, and one unit of the stream, looked at or taken (document 01's "bench").
+// The processor: one unit of the stream, looked at or taken (document 01's "bench").
 mod looking;
 mod taking;
-mod tests;
 
 use command::Command;
-use command::Draw;
-use fifo::Fifo;
-use fifo::Reading;
 pub use looking::look;
 pub use looking::look_at;
 use refusal::Reason;
@@ -14,31 +10,6 @@ pub use taking::Moved;
 pub use taking::TakenUnit;
 pub use taking::take;
 pub use taking::take_at;
-pub use tests::pass;
-pub use tests::registers_fit;
-ghost use mathlib.Core.Path.{_≡_};
-ghost use Rattle.fifo.specs.Answers.{meaningOfReading};
-ghost use Rattle.fifo.specs.Registers.{readAnswer};
-ghost use Rattle.processor.specs.State.{freshMachine, drawingOf};
-
-// What ports share: the 60 CP registers, the 256 BP registers, and the open draw. A look, a taking and a run are lent the registers.
-pub struct Registers {
-    pub cp: [u32; 60],
-    pub bp: [u32; 256],
-    pub draw: Draw,
-}
-
-// The fresh state: the fifo's beside the registers'.
-pub struct Machine {
-    pub fifo: Fifo,
-    pub registers: Registers,
-}
-
-// Whether the state and the lent memory pass refusals 1 to 5.
-pub enum Gate {
-    Passed,
-    Refused(Reason),
-}
 
 // "step answer enum whose done case holds the command enum and whose refused case holds the reason enum": what a look and a taking answer.
 pub enum StepAnswer {
@@ -52,39 +23,4 @@ pub enum StepAnswer {
     // That many bytes are lacking.
     Waiting(u32),
     Refused(Reason),
-}
-
-// "Every BP register of the fresh machine is named": 256 zero words with place FE then set.
-pub fn fresh() -> Machine
-    ensures { λ r. ⌜ r ≡ freshMachine ⌝ }
-{
-    let mut bp = [0u32; 256];
-    bp[0xFE] = 0xFF_FFFF;
-    let registers = Registers {
-        cp: [0u32; 60],
-        bp,
-        draw: Draw::Closed,
-    };
-    Machine {
-        fifo: fifo::fresh(),
-        registers,
-    }
-}
-
-// Whether a draw is open.
-fn drawing(draw: Draw) -> bool
-    ensures { λ r. ⌜ r ≡ drawingOf draw ⌝ }
-{
-    match draw {
-        Draw::Closed => false,
-        Draw::Open { .. } => true,
-    }
-}
-
-// A hardware register of the machine; status bit 3 goes by the open draw.
-pub fn read_register(fifo: Fifo, registers: Registers, offset: u16) -> Reading
-    ensures { λ r. ⌜ meaningOfReading r ≡ readAnswer fifo (drawingOf (registers .draw)) offset ⌝ }
-{
-    let draw = registers.draw;
-    fifo::read_register(fifo, drawing(draw), offset)
 }

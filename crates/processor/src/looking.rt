@@ -1,15 +1,14 @@
 // The next unit looked at and not taken.
-use crate::Gate;
 use crate::StepAnswer;
-use crate::tests;
 use command::Draw;
 use command::Next;
 use fifo::Fifo;
+use machine::Gate;
 use queue::Cursor;
 ghost use mathlib.Core.Path.{_≡_};
 ghost use Rattle.command.specs.Command as command;
 ghost use Rattle.processor.specs.Cursor.{seen};
-ghost use Rattle.processor.specs.State.{stateOf};
+ghost use Rattle.machine.specs.State.{stateOf};
 ghost use Rattle.processor.specs.Step.{meaning, stepFound};
 
 // What the cursor begins with: a unit, or why there is none. It tests none of 1 to 5.
@@ -52,7 +51,7 @@ pub fn look(
     ensures { λ r. ⌜ meaning r ≡ stepFound (now (ring .entry))
         (stateOf fifo (now (cp .entry)) (now (bp .entry)) draw (now (xf .entry)) (now (buffer .entry))) ⌝ }
 {
-    let gate = tests::pass(fifo, cp, bp, draw, ring.len(), xf.len(), buffer.len());
+    let gate = machine::pass(fifo, cp, bp, draw, ring.len(), xf.len(), buffer.len());
     match gate {
         Gate::Refused(reason) => StepAnswer::Refused(reason),
         Gate::Passed => answer_of(look_at(queue::open(fifo), ring, cp, draw)),

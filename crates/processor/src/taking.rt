@@ -1,17 +1,18 @@
 // The next unit taken: looked at, executed, consumed.
-use crate::Gate;
 use crate::StepAnswer;
-use crate::tests;
 use command::Command;
 use command::Draw;
+use command::LARGEST_VERTEX;
 use command::Next;
 use fifo::Fifo;
+use machine::Gate;
 use queue::Cursor;
 ghost use Prim.Native.Nat.{_≤_};
 ghost use Rattle.command.specs.Command.{numbersOf};
+ghost use Rattle.command.specs.Look.{largestVertex};
 ghost use Rattle.effect.specs.Effect.{Applied};
 ghost use Rattle.processor.specs.Cursor.{seen, bytesAt, Takes};
-ghost use Rattle.processor.specs.State.{stateOf};
+ghost use Rattle.machine.specs.State.{stateOf};
 ghost use Rattle.processor.specs.Step.{Steps};
 
 // What one unit leaves of the cursor and the draw, and its answer.
@@ -40,7 +41,7 @@ fn execute(
     xf: &mut [u32],
     buffer: &mut [u8],
 )
-    requires { ⌜ n ≤ 129 ⌝ }
+    requires { ⌜ n ≤ largestVertex ⌝ }
     ensures { λ _. ⌜ Applied (numbersOf command) (bytesAt cursor (now (ring .entry)) n)
         (now (cp .entry)) (now (bp .entry)) (now (xf .entry)) (now (buffer .entry))
         (now (cp .exit)) (now (bp .exit)) (now (xf .exit)) (now (buffer .exit)) ⌝ }
@@ -51,7 +52,7 @@ fn execute(
         effect::apply(command, &ring[at..end], cp, bp, xf, buffer);
         return;
     }
-    let mut bytes = [0u8; 129];
+    let mut bytes = [0u8; LARGEST_VERTEX];
     queue::copy(cursor, ring, &mut bytes, n);
     effect::apply(command, &bytes[..n as usize], cp, bp, xf, buffer);
 }
@@ -117,7 +118,7 @@ pub fn take(
         (stateOf fifo (now (cp .entry)) (now (bp .entry)) draw (now (xf .entry)) (now (buffer .entry)))
         r (now (cp .exit)) (now (bp .exit)) (now (xf .exit)) (now (buffer .exit)) ⌝ }
 {
-    let gate = tests::pass(fifo, cp, bp, draw, ring.len(), xf.len(), buffer.len());
+    let gate = machine::pass(fifo, cp, bp, draw, ring.len(), xf.len(), buffer.len());
     match gate {
         Gate::Refused(reason) => TakenUnit {
             fifo,

@@ -8,7 +8,7 @@ use native.Mathlib.Nat.{add-zero}
 use native.Mathlib.Numerals.{add-one}
 use native.Mathlib.Omega.{arith}
 use lib.Dec.{eqb}
-use lib.ListN.{length, set, take, drop, length-append, take-append-drop}
+use lib.ListN.{length, getD, set, take, drop, length-append, take-append-drop}
 use lib.Seq.{set-split, append-snoc}
 use borrow.Author.Tests.{eqb-true, eqb-false, ne-eqb}
 use Rattle.laws.proofs.Cases.{order, tested, cond-both}
@@ -16,13 +16,13 @@ use Rattle.fifo.specs.declared.Window.{Window}
 use Rattle.fifo.specs.declared.Fifo.{Fifo}
 use Rattle.fifo.specs.Window.{sizeOf, Valid, Ready, readyBy, countOf, accept, withWindow, withWrite}
 use Rattle.queue.specs.Feeding.{roomOf, put, fed, accepted, fifoAfter, ringAfter}
-use Rattle.queue.specs.Promises.{FifoRing, feedAnswer, afterFeed, nextWrite, storeOne, storeEach}
+use Rattle.queue.specs.Promises.{FifoRing, feedAnswer, afterFeed, placeOf, Elsewhere, nextWrite, storeOne, storeEach}
 use Rattle.queue.specs.Promises.{joined, singles, firstRefusal, feedsAnswer, afterFeeds, FeedPromises}
 use Rattle.fifo.proofs.WindowLaws.{ready-true, count-below}
 use Rattle.queue.proofs.Moves.{count-accept, accept-none, accept-accept, accept-straight, accept-round}
 use Rattle.queue.proofs.Stretches.{put-straight}
 use Rattle.queue.proofs.FeedLaws.{Fits, accepted-fits, fits-accepted, refused-unready, refused-long, refused-none}
-use Rattle.queue.proofs.FeedLaws.{refused-left}
+use Rattle.queue.proofs.FeedLaws.{length-fed, fed-at, fed-other, refused-left}
 use Rattle.queue.proofs.Cut.{fit-a, fit-b, fit-both, fed-cut}
 
 -- ---- answers
@@ -43,7 +43,32 @@ after-fits : (s : FifoRing) (bytes : List ℕ) → Fits (s .fifo) (length (s .ri
 unfolding fifoAfter ringAfter
 after-fits s bytes a = rw (fits-accepted (s .fifo) (s .ring) bytes a)
 
--- a feed cut in two, by how far there is room
+-- ---- the places of the ring
+
+fed-place : (s : FifoRing) (bytes : List ℕ) → feedAnswer s bytes ≡ 0 → (i : ℕ) → i < length bytes
+    → getD (afterFeed s bytes .ring) (placeOf s i) 0 ≡ getD bytes i 0
+fed-place s bytes e i l =
+    let fit = answered-fits s bytes e in
+    ap (λ (t : FifoRing). getD (t .ring) (placeOf s i) 0) (after-fits s bytes fit) ∙ fed-at (s .fifo) (s .ring) bytes fit i l
+
+-- what holds of the ring that an accepted feed leaves, and of the ring as it was, holds of the ring that a feed leaves
+of-ring : (P : List ℕ → Type 0) (s : FifoRing) (bytes : List ℕ)
+    → (Fits (s .fifo) (length (s .ring)) (length bytes) → P (fed (s .fifo .window) (s .ring) bytes)) → P (s .ring)
+    → P (afterFeed s bytes .ring)
+unfolding ringAfter
+of-ring P s bytes f p =
+    cond-both P (accepted (s .fifo) (s .ring) bytes) (λ t. f (accepted-fits (s .fifo) (s .ring) bytes t)) (λ _. p)
+
+other-place : (s : FifoRing) (bytes : List ℕ) (j : ℕ) → Elsewhere s (length bytes) j
+    → getD (afterFeed s bytes .ring) j 0 ≡ getD (s .ring) j 0
+other-place s bytes j n =
+    of-ring (λ (r : List ℕ). getD r j 0 ≡ getD (s .ring) j 0) s bytes (λ fit. fed-other (s .fifo) (s .ring) bytes fit j n) refl
+
+places-same : (s : FifoRing) (bytes : List ℕ) → length (afterFeed s bytes .ring) ≡ length (s .ring)
+places-same s bytes =
+    of-ring (λ (r : List ℕ). length r ≡ length (s .ring)) s bytes (λ fit. length-fed (s .fifo) (s .ring) bytes fit) refl
+
+-- ---- a feed cut in two, by how far there is room
 module _ (s : FifoRing) (a b : List ℕ) where
   abbrev Cut : Type 0
   Cut = feedAnswer s (a ++ b) ≡ firstRefusal (feedAnswer s a) (feedAnswer (afterFeed s a) b)
@@ -225,6 +250,9 @@ byte-after s b bs e =
 pub feed-promises : FeedPromises
 feed-promises =
     record {
+      fed-place = fed-place;
+      other-place = other-place;
+      places-same = places-same;
       byte-after-byte = by-bytes;
       refused-after = refused-after;
       cut-answer = cut-answer;

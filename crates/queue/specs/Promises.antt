@@ -1,16 +1,16 @@
 -- What feeds promise together. Document 02, L7: "copy at most two straight stretches, the second only past the ring's end, from its first
 -- byte. State the fed ring by them .. Nothing that a caller can observe may differ, refusal 11 included." The stretches are Feeding
--- `putRound`; here stands that they leave what storing byte after byte leaves, and that a feed may be cut into pieces. Proved in
--- proofs/Feeds `feed-promises`.
-use Prim.Native.Nat.{ℕ, _+_, _-_}
+-- `putRound`; here stands which places they change (document 01), that they leave what storing byte after byte leaves, and that a feed may
+-- be cut into pieces. Proved in proofs/Feeds `feed-promises`.
+use Prim.Native.Nat.{ℕ, _+_, _-_, _<_}
 use mathlib.Core.Path.{_≡_}
 use mathlib.Core.Bool.{cond}
 use mathlib.Core.List.{List, [], _∷_, _++_}
 use lib.Dec.{eqb}
-use lib.ListN.{length, set}
+use lib.ListN.{length, getD, set}
 use Rattle.fifo.specs.declared.Window.{Window}
 use Rattle.fifo.specs.declared.Fifo.{Fifo}
-use Rattle.fifo.specs.Window.{withWindow, withWrite}
+use Rattle.fifo.specs.Window.{withWindow, withWrite, placeAfter}
 use Rattle.queue.specs.Feeding.{feedRefusal, fifoAfter, ringAfter}
 
 -- a fifo and its ring's bytes: what a feed is handed and leaves
@@ -71,7 +71,25 @@ unfoldable pub afterFeeds : FifoRing → List (List ℕ) → FifoRing
 afterFeeds s [] = s
 afterFeeds s (p ∷ ps) = afterFeeds (afterFeed s p) ps
 
+-- ---- the places of the ring
+
+-- the place of byte i of a feed: "Feeding starts at the write pointer and wraps"
+abbrev pub placeOf : FifoRing → ℕ → ℕ
+placeOf s i = placeAfter (s .fifo .window) (s .fifo .window .write) i
+
+-- j is the place of none of n fed bytes
+abbrev pub Elsewhere : FifoRing → ℕ → ℕ → Type 0
+Elsewhere s n j = (i : ℕ) → i < n → j ≡ placeOf s i → ⊥
+
 pub record FeedPromises : Type 0 where
+  -- "Feeding starts at the write pointer and wraps": where a feed is accepted, each byte stands at its place
+  pub fed-place : (s : FifoRing) (bytes : List ℕ) → feedAnswer s bytes ≡ 0 → (i : ℕ) → i < length bytes
+      → getD (afterFeed s bytes .ring) (placeOf s i) 0 ≡ getD bytes i 0
+  -- "only the fed places change": every other place, of every feed
+  pub other-place : (s : FifoRing) (bytes : List ℕ) (j : ℕ) → Elsewhere s (length bytes) j
+      → getD (afterFeed s bytes .ring) j 0 ≡ getD (s .ring) j 0
+  -- and there are as many places as before
+  pub places-same : (s : FifoRing) (bytes : List ℕ) → length (afterFeed s bytes .ring) ≡ length (s .ring)
   -- an accepted feed leaves the fifo and the ring as storing its bytes one after the other leaves them
   pub byte-after-byte : (s : FifoRing) (bytes : List ℕ) → feedAnswer s bytes ≡ 0 → afterFeed s bytes ≡ storeEach s bytes
   -- a refused feed leaves them as they were

@@ -11,10 +11,10 @@ use Rattle.command.specs.declared.Draw.{Draw}
 use Rattle.queue.specs.declared.Cursor.{Cursor}
 use Rattle.fifo.specs.Window.{consume}
 use Rattle.queue.specs.Cursor.{opened}
-use Rattle.processor.specs.State.{State}
+use Rattle.machine.specs.State.{State}
 use Rattle.processor.specs.Step.{lookAt, executed}
 use Rattle.running.specs.Run.{Ended, goneOn, steps}
-use Rattle.processor.proofs.Passing.{Passes}
+use Rattle.machine.proofs.Passing.{Passes}
 use Rattle.processor.proofs.Valid.{after-passes}
 use Rattle.running.proofs.Course.{Course, hereOf, unit-step}
 
@@ -64,7 +64,9 @@ course-ahead {ring} {limit} {s} {cursor} {cp} {bp} {draw} {xf} {buffer} {units} 
       cursor-is = c;
       passes = a .passes;
       within = h;
-      count-is = at .count-is ∙ ap (λ (x : ℕ). units + length (steps ring x here .units)) e ∙ ap (λ (x : ℕ). units + x) (a .count-is m) ∙ omega arith;
+      count-is =
+          at .count-is ∙ ap (λ (x : ℕ). units + length (steps ring x here .units)) e
+          ∙ ap (λ (x : ℕ). units + x) (a .count-is m) ∙ omega arith;
       stop-is = at .stop-is ∙ ap (λ (x : ℕ). steps ring x here .stop) e ∙ a .stop-is m;
       state-is = at .state-is ∙ ap (λ (x : ℕ). steps ring x here .state) e ∙ a .state-is m;
     }

@@ -8,6 +8,7 @@ use lib.ListN.{length}
 use Rattle.octets.proofs.Number.{Octets}
 use Rattle.command.specs.declared.Draw.{Draw}
 use Rattle.command.specs.Command.{Found, unit, waiting, refused}
+use Rattle.command.specs.Prefix.{NoUnit}
 use Rattle.queue.specs.declared.Cursor.{Cursor}
 use Rattle.fifo.specs.declared.Fifo.{Fifo}
 use Rattle.fifo.specs.Window.{consume}
@@ -15,11 +16,11 @@ use Rattle.queue.specs.Cursor.{opened, closed}
 use Rattle.queue.proofs.CursorLaws.{reads-pending}
 use Rattle.queue.proofs.Moves.{consume-none, consume-consume}
 use Rattle.processor.specs.declared.StepAnswer.{StepAnswer}
-use Rattle.processor.specs.State.{State}
-use Rattle.processor.specs.Gate.{gateOf}
+use Rattle.machine.specs.State.{State}
+use Rattle.machine.specs.Gate.{gateOf}
 use Rattle.processor.specs.Step.{meaning, lookAt, executed, after, stepOf}
 use Rattle.running.specs.Run.{Taken, Ended, stopOf, goneOn, steps, Arrives}
-use Rattle.processor.proofs.Passing.{Passes, gate-passes, passes-gate}
+use Rattle.machine.proofs.Passing.{Passes, gate-passes, passes-gate}
 use Rattle.processor.proofs.Bridge.{TakesUnit}
 use Rattle.processor.proofs.Valid.{after-passes, runs-found, step-after}
 
@@ -28,12 +29,15 @@ abbrev pub hereOf : Fifo → ℕ → List ℕ → List ℕ → Draw → List ℕ
 hereOf f n cp bp draw xf buffer = record { fifo = consume f n; cp = cp; bp = bp; draw = draw; xf = xf; buffer = buffer }
 
 -- a run of so many units at most, from s, that has come to here after some
-pub record Course (ring : List ℕ) (limit : ℕ) (s : State) (cursor : Cursor) (cp bp : List ℕ) (draw : Draw) (xf buffer : List ℕ) (units : ℕ) : Type 0 where
+pub record Course (ring : List ℕ) (limit : ℕ) (s : State) (cursor : Cursor)
+    (cp bp : List ℕ) (draw : Draw) (xf buffer : List ℕ) (units : ℕ) : Type 0 where
   pub consumed : ℕ
   pub cursor-is : cursor ≡ opened (consume (s .fifo) consumed)
   pub passes : Passes (hereOf (s .fifo) consumed cp bp draw xf buffer) (length ring)
   pub within : units ≤ limit
-  pub count-is : length (steps ring limit s .units) ≡ units + length (steps ring (limit - units) (hereOf (s .fifo) consumed cp bp draw xf buffer) .units)
+  pub count-is :
+      length (steps ring limit s .units)
+      ≡ units + length (steps ring (limit - units) (hereOf (s .fifo) consumed cp bp draw xf buffer) .units)
   pub stop-is : steps ring limit s .stop ≡ steps ring (limit - units) (hereOf (s .fifo) consumed cp bp draw xf buffer) .stop
   pub state-is : steps ring limit s .state ≡ steps ring (limit - units) (hereOf (s .fifo) consumed cp bp draw xf buffer) .state
 
@@ -41,7 +45,8 @@ module _ (ring : List ℕ) (limit : ℕ) (s : State) (g : gateOf s (length ring)
   begun : consume (s .fifo) 0 ≡ s .fifo
   begun = consume-none (s .fifo) (gate-passes s (length ring) g .ready .valid)
 
-  pub course-begins : {cursor : Cursor} → cursor ≡ opened (s .fifo) → Course ring limit s cursor (s .cp) (s .bp) (s .draw) (s .xf) (s .buffer) 0
+  pub course-begins : {cursor : Cursor} → cursor ≡ opened (s .fifo)
+      → Course ring limit s cursor (s .cp) (s .bp) (s .draw) (s .xf) (s .buffer) 0
   course-begins e =
       let p : Passes s (length ring) = gate-passes s (length ring) g in
       record {
@@ -54,30 +59,31 @@ module _ (ring : List ℕ) (limit : ℕ) (s : State) (g : gateOf s (length ring)
         state-is = rw (begun, sub-zero limit);
       }
 
--- what is no unit ends a run where it stands
-NoUnit : Found → Type 0
-NoUnit found = (c : List ℕ) (m n : ℕ) → found ≡ unit c m n → ⊥
+-- the fifo closed at the cursor has consumed the bytes of the units before
+course-closed : {ring : List ℕ} {limit : ℕ} {s : State} {cursor : Cursor} {cp bp : List ℕ} {draw : Draw} {xf buffer : List ℕ}
+    {units : ℕ} {fifo : Fifo} → gateOf s (length ring) ≡ 0 → (at : Course ring limit s cursor cp bp draw xf buffer units)
+    → fifo ≡ closed (s .fifo) cursor → fifo ≡ consume (s .fifo) (at .consumed)
+course-closed {ring} {s = s} g at fi =
+    fi ∙ ap (closed (s .fifo)) (at .cursor-is)
+    ∙ reads-pending (s .fifo) ring (gate-passes s (length ring) g .ready) .close-is (at .consumed)
 
+-- what is no unit ends a run where it stands
 ends-units : (found : Found) → NoUnit found → (h : State) (e : Ended) → goneOn found h e .units ≡ []
-unfolding NoUnit
 ends-units (unit c m n) out h e = absurd (out c m n refl)
 ends-units (waiting k) out h e = refl
 ends-units (refused r) out h e = refl
 
 ends-stop : (found : Found) → NoUnit found → (h : State) (e : Ended) → goneOn found h e .stop ≡ stopOf found
-unfolding NoUnit
 ends-stop (unit c m n) out h e = absurd (out c m n refl)
 ends-stop (waiting k) out h e = refl
 ends-stop (refused r) out h e = refl
 
 ends-state : (found : Found) → NoUnit found → (h : State) (e : Ended) → goneOn found h e .state ≡ h
-unfolding NoUnit
 ends-state (unit c m n) out h e = absurd (out c m n refl)
 ends-state (waiting k) out h e = refl
 ends-state (refused r) out h e = refl
 
 ends-after : (ring : List ℕ) (found : Found) → NoUnit found → (h : State) → after ring h found ≡ h
-unfolding NoUnit
 ends-after ring (unit c m n) out h = absurd (out c m n refl)
 ends-after ring (waiting k) out h = refl
 ends-after ring (refused r) out h = refl
@@ -112,7 +118,8 @@ module _ (ring : List ℕ) (o : Octets ring) where
           let f : lookAt ring here ≡ unit c m n = sym (t .answer-is) ∙ e in
           rw (← consume-consume (s .fifo) (at .consumed) n) (rw f at (t .state-is))
 
-      pub course-goes : (c : List ℕ) (m n : ℕ) → meaning answer ≡ unit c m n → Course ring limit s cursor' cp' bp' draw' xf' buffer' (units + 1)
+      pub course-goes : (c : List ℕ) (m n : ℕ) → meaning answer ≡ unit c m n
+          → Course ring limit s cursor' cp' bp' draw' xf' buffer' (units + 1)
       unfolding executed
       course-goes c m n e =
           let f : lookAt ring here ≡ unit c m n = sym (t .answer-is) ∙ e in
@@ -131,36 +138,44 @@ module _ (ring : List ℕ) (o : Octets ring) where
             state-is = at .state-is ∙ ap (λ (x : Ended). x .state) q;
           }
 
-      pub course-stops : ((c : List ℕ) (m n : ℕ) → meaning answer ≡ unit c m n → ⊥) → {stop : List ℕ} {fifo : Fifo}
+      pub course-stops : NoUnit (meaning answer) → {stop : List ℕ} {fifo : Fifo}
           → stop ≡ stopOf (meaning answer) → fifo ≡ closed (s .fifo) cursor → gateOf s (length ring) ≡ 0
           → Arrives ring limit s stop fifo cp' bp' draw xf' buffer' units
-      unfolding NoUnit
       course-stops out {stop} {fifo} st fi g =
           let found : Found = lookAt ring here in
           let none : NoUnit found = λ c m n e. out c m n (t .answer-is ∙ e) in
           let k : ℕ = limit - (units + 1) in
           let rest : Ended = steps ring k (stepOf ring here) in
-          let q : steps ring (limit - units) here ≡ goneOn found here rest = ap (λ (x : ℕ). steps ring x here) one-more ∙ other-step k here (at .passes) in
+          let q : steps ring (limit - units) here ≡ goneOn found here rest =
+          ap (λ (x : ℕ). steps ring x here) one-more ∙ other-step k here (at .passes) in
           let a : after ring here found ≡ here = ends-after ring found none here in
-          let f : fifo ≡ consume (s .fifo) (at .consumed) =
-          fi ∙ ap (closed (s .fifo)) (at .cursor-is) ∙ reads-pending (s .fifo) ring (gate-passes s (length ring) g .ready) .close-is (at .consumed) in
-          let same : _≡_ {A = State} (record { fifo = here .fifo; cp = cp'; bp = bp'; draw = draw'; xf = xf'; buffer = buffer' }) here = rw a at (t .state-is) in
+          let f : fifo ≡ consume (s .fifo) (at .consumed) = course-closed g at fi in
+          let same : hereOf (s .fifo) (at .consumed) cp' bp' draw' xf' buffer' ≡ here = rw a at (t .state-is) in
           record {
-            units-are = sym (at .count-is ∙ ap (λ (x : Ended). units + length (x .units)) q ∙ ap (λ (x : List Taken). units + length x) (ends-units found none here rest) ∙ add-zero units);
+            units-are =
+                sym (at .count-is ∙ ap (λ (x : Ended). units + length (x .units)) q
+                ∙ ap (λ (x : List Taken). units + length x) (ends-units found none here rest) ∙ add-zero units);
             stop-is = st ∙ ap stopOf (t .answer-is) ∙ sym (at .stop-is ∙ ap (λ (x : Ended). x .stop) q ∙ ends-stop found none here rest);
             state-is =
-                rw (f, ap (λ (x : State). x .cp) same, ap (λ (x : State). x .bp) same, ap (λ (x : State). x .xf) same, ap (λ (x : State). x .buffer) same)
+                rw (
+                  f,
+                  ap (λ (x : State). x .cp) same,
+                  ap (λ (x : State). x .bp) same,
+                  ap (λ (x : State). x .xf) same,
+                  ap (λ (x : State). x .buffer) same,
+                )
                 (sym (at .state-is ∙ ap (λ (x : Ended). x .state) q ∙ ends-state found none here rest));
           }
 
 -- the limit reached
-pub course-ends : {ring : List ℕ} {limit : ℕ} {s : State} {cursor : Cursor} {cp bp : List ℕ} {draw : Draw} {xf buffer : List ℕ} {units : ℕ} {fifo : Fifo}
+pub course-ends : {ring : List ℕ} {limit : ℕ} {s : State} {cursor : Cursor} {cp bp : List ℕ} {draw : Draw} {xf buffer : List ℕ}
+    {units : ℕ} {fifo : Fifo}
     → gateOf s (length ring) ≡ 0 → Course ring limit s cursor cp bp draw xf buffer units → limit ≤ units → fifo ≡ closed (s .fifo) cursor
     → Arrives ring limit s (0 ∷ []) fifo cp bp draw xf buffer units
 unfolding steps
 course-ends {ring} {limit} {s} {units = units} g at h fi =
     let z : limit - units ≡ 0 = omega arith in
-    let f = fi ∙ ap (closed (s .fifo)) (at .cursor-is) ∙ reads-pending (s .fifo) ring (gate-passes s (length ring) g .ready) .close-is (at .consumed) in
+    let f = course-closed g at fi in
     record {
       units-are = sym (rw z at (at .count-is) ∙ add-zero units);
       stop-is = sym (rw z at (at .stop-is));

@@ -11,8 +11,8 @@ use Rattle.command.specs.declared.Draw.{Draw}
 use Rattle.fifo.specs.declared.Fifo.{Fifo}
 use Rattle.running.specs.declared.Stop.{Stop}
 use Rattle.running.specs.declared.Stop.the-variants.{Refused}
-use Rattle.processor.specs.State.{State, stateOf}
-use Rattle.processor.specs.Gate.{gateOf}
+use Rattle.machine.specs.State.{State, stateOf}
+use Rattle.machine.specs.Gate.{gateOf}
 use Rattle.running.specs.Run.{Ended, meaningOfStop, ended, steps, gated, runLimit, runOf, Arrives, Reports}
 
 -- a run that is refused by its gate
@@ -34,7 +34,8 @@ module _ (ring : List ℕ) (limit : ℕ) (fifo : Fifo) (cp bp : List ℕ) (draw 
       rw g (record { units-are = refl; stop-is = refl; state-is = refl })
 
   pub run-taken : {most units : ℕ} {stop : Stop} {left : Fifo} {cp' bp' : List ℕ} {draw' : Draw} {xf' buffer' : List ℕ}
-      → gateOf s (length ring) ≡ 0 → most ≡ min limit runLimit → Arrives ring most s (meaningOfStop stop) left cp' bp' draw' xf' buffer' units
+      → gateOf s (length ring) ≡ 0 → most ≡ min limit runLimit
+      → Arrives ring most s (meaningOfStop stop) left cp' bp' draw' xf' buffer' units
       → Reports (runOf ring limit s) (record { fifo = left; draw = draw'; units = units; stop = stop }) cp' bp' xf' buffer'
   unfolding runOf
   run-taken g m a = rw (g, ← m) (record { units-are = a .units-are; stop-is = a .stop-is; state-is = a .state-is })

@@ -23,13 +23,13 @@ use Rattle.queue.specs.Cursor.{opened, skipped, straightBy}
 use Rattle.queue.proofs.CursorLaws.{straight-true, reads-pending}
 use Rattle.queue.proofs.Moves.{consume-consume}
 use Rattle.queue.proofs.Pending.{length-pending}
-use Rattle.processor.specs.State.{State}
+use Rattle.machine.specs.State.{State}
 use Rattle.processor.specs.Step.{queueOf, lookAt, executed}
 use Rattle.processor.specs.declared.StepAnswer.{StepAnswer}
 use Rattle.processor.specs.Cursor.{seen, bytesAt, Takes}
 use Rattle.running.specs.Stretch.{TakesStretch}
 use Rattle.processor.proofs.Bytes.{lent-is}
-use Rattle.processor.proofs.Passing.{Passes}
+use Rattle.machine.proofs.Passing.{Passes}
 use Rattle.processor.proofs.Bridge.{TakesUnit, takes-opened}
 use Rattle.running.proofs.Course.{Course, hereOf}
 use Rattle.running.proofs.Ahead.{Ahead, ahead-none, ahead-next, course-ahead}

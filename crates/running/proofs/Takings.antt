@@ -7,8 +7,8 @@ use native.Mathlib.Omega.{arith}
 use lib.ListN.{length}
 use Rattle.octets.specs.BigEndian.{Octets}
 use Rattle.command.specs.Look.{unlessRefused}
-use Rattle.processor.specs.State.{State}
-use Rattle.processor.specs.Gate.{gateOf}
+use Rattle.machine.specs.State.{State}
+use Rattle.machine.specs.Gate.{gateOf}
 use Rattle.processor.specs.Step.{lookAt, stepFound, stepOf}
 use Rattle.processor.proofs.Valid.{runs-on}
 use Rattle.running.specs.Run.{Ended, goneOn, steps, gated, runLimit, runOf}

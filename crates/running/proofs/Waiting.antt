@@ -10,10 +10,10 @@ use Rattle.command.specs.Bounds.{Fair}
 use Rattle.command.proofs.Refusals.{unless-waiting}
 use Rattle.command.proofs.Bounds.{look-fair}
 use Rattle.queue.proofs.Pending.{length-pending}
-use Rattle.processor.specs.State.{State}
-use Rattle.processor.specs.Gate.{gateOf}
+use Rattle.machine.specs.State.{State}
+use Rattle.machine.specs.Gate.{gateOf}
 use Rattle.processor.specs.Step.{queueOf, lookAt, stepFound}
-use Rattle.processor.proofs.Passing.{Passes, gate-passes, gate-most}
+use Rattle.machine.proofs.Passing.{Passes, gate-passes, gate-most}
 use Rattle.running.specs.Run.{runOf}
 use Rattle.running.specs.Promises.{LackingFits, RunWaits, RunLackingFits}
 use Rattle.running.proofs.Invariant.{run-holds}

@@ -6,7 +6,7 @@ use Prim.Native.Nat.{ℕ, suc, _≤_, _<_}
 use Rattle.octets.specs.BigEndian.{Octets}
 use Rattle.command.specs.Command.{waiting}
 use Rattle.queue.specs.Feeding.{roomOf}
-use Rattle.processor.specs.State.{State}
+use Rattle.machine.specs.State.{State}
 use Rattle.processor.specs.Step.{stepFound, stepOf}
 use Rattle.running.specs.Run.{goneOn, runLimit, runOf}
 

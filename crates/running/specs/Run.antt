@@ -11,8 +11,8 @@ use Rattle.fifo.specs.declared.Fifo.{Fifo}
 use Rattle.running.specs.declared.Stop.{Stop}
 use Rattle.running.specs.declared.Stop.the-variants.{Limit, Waiting, Refused}
 use Rattle.running.specs.declared.Ran.{Ran}
-use Rattle.processor.specs.State.{State, stateOf}
-use Rattle.processor.specs.Gate.{gateOf}
+use Rattle.machine.specs.State.{State, stateOf}
+use Rattle.machine.specs.Gate.{gateOf}
 use Rattle.processor.specs.Step.{stepFound, stepOf}
 pub use Rattle.walk.specs.Flat.{Taken}
 

@@ -4,9 +4,9 @@ mod units;
 
 use command::Draw;
 use fifo::Fifo;
-use processor::Gate;
+use machine::Gate;
 use refusal::Reason;
-ghost use Rattle.processor.specs.State.{stateOf};
+ghost use Rattle.machine.specs.State.{stateOf};
 ghost use Rattle.running.specs.Run.{runOf, Reports};
 
 // Why a run stopped: "at its limit, at waiting or at a refusal".
@@ -40,7 +40,7 @@ pub fn run(
         r (now (cp .exit)) (now (bp .exit)) (now (xf .exit)) (now (buffer .exit)) ⌝ }
 {
     let most = units::capped(limit);
-    let gate = processor::pass(fifo, cp, bp, draw, ring.len(), xf.len(), buffer.len());
+    let gate = machine::pass(fifo, cp, bp, draw, ring.len(), xf.len(), buffer.len());
     match gate {
         Gate::Refused(reason) => Ran {
             fifo,

@@ -3,6 +3,7 @@ use crate::Stop;
 use crate::stretch;
 use command::Command;
 use command::Draw;
+use command::LARGEST_VERTEX;
 use fifo::Fifo;
 use processor::Moved;
 use processor::StepAnswer;
@@ -10,10 +11,11 @@ use queue::Cursor;
 ghost use mathlib.Core.Path.{_≡_};
 ghost use Prim.Native.Nat.{_≤_, min};
 ghost use lib.ListN.{length};
-ghost use Rattle.processor.specs.Gate.{gateBy};
+ghost use Rattle.command.specs.Look.{largestVertex};
+ghost use Rattle.machine.specs.Gate.{gateBy};
 ghost use Rattle.processor.specs.Cursor.{seen, Takes};
 ghost use Rattle.processor.specs.Step.{meaning};
-ghost use Rattle.processor.specs.State.{stateOf};
+ghost use Rattle.machine.specs.State.{stateOf};
 ghost use Rattle.running.specs.Stretch.{SizeKnown, TakesVertex};
 ghost use Rattle.running.specs.Run.{runLimit, stopOf, meaningOfStop, Arrives};
 
@@ -48,11 +50,11 @@ fn stop_for(answer: StepAnswer) -> Stop
 
 // Takes a vertex of so many bytes off a cursor, straight or over the ring's end.
 fn take_vertex(cursor: Cursor, ring: &[u8], draw: Draw, buffer: &mut [u8], size: u32) -> Moved
-    requires { ⌜ size ≤ 129 ⌝ }
+    requires { ⌜ size ≤ largestVertex ⌝ }
     ensures { λ r. ⌜ TakesVertex cursor (now (ring .entry)) draw (now (buffer .entry)) size
         (r .answer) (r .cursor) (r .draw) (now (buffer .exit)) ⌝ }
 {
-    let mut bytes = [0u8; 129];
+    let mut bytes = [0u8; LARGEST_VERTEX];
     queue::copy(cursor, ring, &mut bytes, size);
     effect::copy_vertex(buffer, &bytes[..size as usize]);
     Moved {

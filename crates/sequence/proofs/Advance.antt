@@ -10,11 +10,11 @@ use Rattle.command.specs.Command.{Found, unit, waiting, refused, loadBp}
 use Rattle.command.specs.Look.{lookOf}
 use Rattle.command.proofs.Ranges.{Ranged}
 use Rattle.queue.proofs.CursorLaws.{reads-pending}
-use Rattle.processor.specs.State.{State}
+use Rattle.machine.specs.State.{State}
 use Rattle.processor.specs.Step.{queueOf, lookAt, executed, stepFound, stepOf}
 use Rattle.processor.specs.Step as S
 use Rattle.running.specs.Run.{Taken, Ended, goneOn, steps, runLimit, runOf}
-use Rattle.processor.proofs.Passing.{Passes, passes-gate}
+use Rattle.machine.proofs.Passing.{Passes, passes-gate}
 use Rattle.processor.proofs.Bridge.{unit-fits}
 use Rattle.processor.proofs.Valid.{executed-passes, runs-found}
 use Rattle.history.specs.Calls.{answered, commandsIn}

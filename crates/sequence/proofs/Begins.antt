@@ -3,8 +3,8 @@ use mathlib.Core.Path.{refl}
 use Rattle.laws.specs.Values.{upTo}
 use Rattle.fifo.specs.Window.{sizeLimit, validBy, readyBy, countOf}
 use Rattle.queue.specs.Pending.{pending}
-use Rattle.processor.specs.State.{freshMachine}
-use Rattle.processor.specs.Gate.{allBelow, bpFits, cpFits, controlFits, drawFits, registersFit, stateFits, gateBy}
+use Rattle.machine.specs.State.{freshMachine}
+use Rattle.machine.specs.Gate.{allBelow, bpFits, cpFits, controlFits, drawFits, registersFit, stateFits, gateBy}
 use Rattle.sequence.specs.Promise.{Start}
 use Rattle.sequence.specs.Start.{firstWorld}
 

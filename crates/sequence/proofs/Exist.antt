@@ -11,7 +11,7 @@ use Rattle.fifo.specs.Window.{countOf}
 use Rattle.queue.specs.Feeding.{accepted, bytesAccepted}
 use Rattle.queue.proofs.FeedLaws.{fits-accepted}
 use Rattle.queue.proofs.Pending.{length-pending}
-use Rattle.processor.proofs.Passing.{Passes, gate-passes, passes-gate}
+use Rattle.machine.proofs.Passing.{Passes, gate-passes, passes-gate}
 use Rattle.history.specs.Calls.{World, feed, take, queue, after, fed, afterAll, fedAll, AllListed}
 use Rattle.history.proofs.Fed.{feed-longer, runs-fed}
 use Rattle.patch.specs.Patch.{Patch, AllAccepted}

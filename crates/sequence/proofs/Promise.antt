@@ -10,9 +10,9 @@ use Rattle.laws.proofs.Cases.{cond-both}
 use Rattle.writer.specs.Write.{commandBytes}
 use Rattle.fifo.specs.declared.Fifo.{Fifo}
 use Rattle.fifo.specs.Registers.{stored, writable, written}
-use Rattle.processor.specs.Gate.{bpFits}
-use Rattle.processor.proofs.Below.{below-at}
-use Rattle.processor.proofs.Passing.{Passes, gate-passes, passes-gate}
+use Rattle.machine.specs.Gate.{bpFits}
+use Rattle.machine.proofs.Below.{below-at}
+use Rattle.machine.proofs.Passing.{Passes, gate-passes, passes-gate}
 use Rattle.running.specs.Run.{Taken}
 use Rattle.history.specs.Calls.{World, Call, feed, take, look, run, write, read, queue, after, fed, unitsOf, afterAll, fedAll, unitsAll}
 use Rattle.history.specs.Calls.{commandsIn, Listed, AllListed}

@@ -1,8 +1,8 @@
 -- A world that demand 3 may begin with: the fresh registers, a window of 256 bytes, reading allowed, and lent memory of zeros.
 use lib.ListN.{replicate}
-use Rattle.command.specs.Look.{xfCount}
+use Rattle.command.specs.Look.{xfCount, largestVertex}
 use Rattle.fifo.specs.declared.Fifo.{Fifo}
-use Rattle.processor.specs.State.{stateOf, freshMachine}
+use Rattle.machine.specs.State.{stateOf, freshMachine}
 use Rattle.history.specs.Calls.{World}
 
 abbrev pub firstFifo : Fifo
@@ -17,6 +17,6 @@ firstWorld =
     record {
       state =
           stateOf firstFifo (freshMachine .registers .cp) (freshMachine .registers .bp) (freshMachine .registers .draw)
-          (replicate xfCount 0) (replicate 129 0);
+          (replicate xfCount 0) (replicate largestVertex 0);
       ring = replicate 256 0;
     }

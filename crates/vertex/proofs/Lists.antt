@@ -15,9 +15,9 @@ use Rattle.octets.proofs.AtMostFour.{at-most-four}
 use Rattle.component.specs.Component.{widthOf, componentOf}
 use Rattle.component.proofs.Widths.{width-le}
 use Rattle.component.proofs.Patterns.{kept-bits}
-use Rattle.layout.specs.declared.Descriptor.{Descriptor}
-use Rattle.layout.specs.Fields.{modeOf, countOf, formatOf, fractionOf, indicesOf}
-use Rattle.layout.specs.Sizes.{isColour, componentsOf, colourWidth}
+use Rattle.fields.specs.declared.Descriptor.{Descriptor}
+use Rattle.fields.specs.Fields.{modeOf, countOf, formatOf, fractionOf, indicesOf}
+use Rattle.fields.specs.Components.{isColour, componentsOf, colourWidth}
 use Rattle.vertex.specs.declared.Triple.{Triple}
 use Rattle.vertex.specs.Attributes.{rawAt, componentAt, bitsOf, tripleAt, positionAt, paddedList, componentList, directList}
 use Rattle.vertex.specs.Attributes.{indexList, attributeList, singlesOf}

@@ -17,10 +17,11 @@ use Rattle.octets.proofs.Number.{Octets, big-lt}
 use Rattle.component.specs.Single.{Exact}
 use Rattle.component.specs.Component.{widthOf, patternOf, integerOf, Decoded}
 use Rattle.component.proofs.Patterns.{component-exact, decoded}
-use Rattle.layout.specs.declared.Descriptor.{Descriptor}
-use Rattle.layout.specs.Fields.{modeOf, countOf, formatOf, fractionOf}
-use Rattle.layout.specs.Sizes.{isColour, componentsOf, offsetOf}
-use Rattle.layout.proofs.Bounds.{fraction-lt}
+use Rattle.fields.specs.declared.Descriptor.{Descriptor}
+use Rattle.fields.specs.Fields.{modeOf, countOf, formatOf, fractionOf}
+use Rattle.fields.specs.Components.{isColour, componentsOf}
+use Rattle.layout.specs.Sizes.{offsetOf}
+use Rattle.fields.proofs.Bounds.{fraction-lt}
 use Rattle.vertex.specs.declared.Answer.{Answer}
 use Rattle.vertex.specs.Attributes.{rawAt, componentAt, bitsOf, paddedList, kindOf, fullOf, componentList, attributeList}
 use Rattle.vertex.specs.Answers.{meaning, refusalAt, decodingOf, hasComponents, rawOf, HasComponent, Decodes}

@@ -9,9 +9,10 @@ use lib.Ieee.{Float, binary32, fits, toBits, nanBits}
 use Rattle.refusal.specs.Number.{number}
 use Rattle.component.specs.Single.{Exact}
 use Rattle.component.specs.Component.{integerOf}
-use Rattle.layout.specs.declared.Descriptor.{Descriptor}
-use Rattle.layout.specs.Fields.{modeOf, countOf, formatOf, fractionOf}
-use Rattle.layout.specs.Sizes.{isColour, componentsOf, offsetOf}
+use Rattle.fields.specs.declared.Descriptor.{Descriptor}
+use Rattle.fields.specs.Fields.{modeOf, countOf, formatOf, fractionOf}
+use Rattle.fields.specs.Components.{isColour, componentsOf}
+use Rattle.layout.specs.Sizes.{offsetOf}
 use Rattle.layout.specs.Answers.{refusalOf}
 use Rattle.vertex.specs.declared.Triple.{Triple}
 use Rattle.vertex.specs.declared.Attribute.{Attribute}

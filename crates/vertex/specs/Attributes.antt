@@ -10,9 +10,10 @@ use lib.Ieee.{Float, binary32, ofBits, toBits}
 use Rattle.laws.specs.Values.{upTo}
 use Rattle.octets.specs.BigEndian.{bigEndian}
 use Rattle.component.specs.Component.{widthOf, componentOf}
-use Rattle.layout.specs.declared.Descriptor.{Descriptor}
-use Rattle.layout.specs.Fields.{modeOf, countOf, formatOf, fractionOf, indicesOf}
-use Rattle.layout.specs.Sizes.{isColour, componentsOf, colourWidth, indexWidth}
+use Rattle.fields.specs.declared.Descriptor.{Descriptor}
+use Rattle.fields.specs.Fields.{modeOf, countOf, formatOf, fractionOf, indicesOf}
+use Rattle.fields.specs.Components.{isColour, componentsOf, colourWidth}
+use Rattle.layout.specs.Sizes.{indexWidth}
 use Rattle.vertex.specs.declared.Triple.{Triple}
 
 -- the raw number of component i, of those that start at a place

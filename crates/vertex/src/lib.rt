@@ -1,13 +1,14 @@
 // One attribute of a vertex: what document 01's "Vertex layout" says that it decodes to, and the patterns of its f32 components.
 mod raw;
 
-use layout::Descriptor;
-use layout::Field;
+use fields::Descriptor;
+use fields::Field;
+use fields::attributes;
 use layout::LayoutAnswer;
 use refusal::Reason;
 ghost use mathlib.Core.Path.{_≡_};
 ghost use Prim.Native.Nat.{_<_, _≤_};
-ghost use Rattle.layout.specs.Fields.{fieldOf};
+ghost use Rattle.fields.specs.Fields.{fieldOf};
 ghost use Rattle.vertex.specs.Attributes.{componentAt, tripleAt, positionAt, componentList, directList, indexList, attributeList};
 ghost use Rattle.vertex.specs.Answers.{told, located, locationOf, Decodes, RawIs};
 
@@ -116,13 +117,13 @@ fn read_texture(vertex: &[u8], at: u8, count: u32, format: u32, fraction: u32) -
 fn read_direct(vertex: &[u8], at: u8, k: usize, count: u32, format: u32, fraction: u32) -> Attribute
     ensures { λ r. ⌜ told r ≡ directList (now (vertex .entry)) at k count format fraction ⌝ }
 {
-    if layout::is_colour(k) {
-        return Attribute::Colour(octets::read(vertex, at as u32, layout::colour_width(format)));
+    if fields::is_colour(k) {
+        return Attribute::Colour(octets::read(vertex, at as u32, fields::colour_width(format)));
     }
-    if k == 9 {
+    if k == attributes::POSITION {
         return Attribute::Position(read_position(vertex, at, count, format, fraction));
     }
-    if k == 10 {
+    if k == attributes::NORMAL {
         return read_normal(vertex, at, count, format, fraction);
     }
     read_texture(vertex, at, count, format, fraction)
@@ -146,10 +147,10 @@ fn read_indices(vertex: &[u8], at: u8, times: u32, n: u32) -> Attribute
 fn field_of(descriptor: Descriptor, k: usize) -> Field
     ensures { λ r. ⌜ r ≡ fieldOf descriptor k ⌝ }
 {
-    if k == 9 {
-        return layout::read_field(descriptor, 9);
+    if k == attributes::POSITION {
+        return fields::read_field(descriptor, attributes::POSITION);
     }
-    layout::read_field(descriptor, k)
+    fields::read_field(descriptor, k)
 }
 
 // Attribute k, from its place in the vertex on.
@@ -161,7 +162,7 @@ fn decode_at(descriptor: Descriptor, k: usize, vertex: &[u8], at: u8) -> Attribu
     if mode == 0 {
         return Attribute::Absent;
     }
-    if k < 9 {
+    if k < attributes::POSITION {
         return Attribute::Matrix(octets::read(vertex, at as u32, 1));
     }
     if mode == 1 {
@@ -181,13 +182,14 @@ fn locate(descriptor: Descriptor, k: usize, vertex: &[u8]) -> Place
     match answer {
         LayoutAnswer::Refused(reason) => Place::Refused(reason),
         LayoutAnswer::Accepted => {
-            if 20 < k {
+            if attributes::TEXTURE7 < k {
                 return Place::Refused(Reason::NotOfLayout);
             }
-            if vertex.len() != length as usize {
-                return Place::Refused(Reason::NotOfLayout);
+            if vertex.len() == length as usize {
+                let at = offset as u8;
+                return Place::At(at);
             }
-            Place::At(offset as u8)
+            Place::Refused(Reason::NotOfLayout)
         }
     }
 }

@@ -1,5 +1,5 @@
 // The patterns of an attribute's f32 components.
-use layout::Descriptor;
+use fields::Descriptor;
 ghost use mathlib.Core.Path.{_≡_};
 ghost use Prim.Native.Nat.{_<_};
 ghost use Rattle.vertex.specs.Attributes.{singlesOf, wordAt, wordsOf};
@@ -8,7 +8,7 @@ ghost use Rattle.vertex.specs.Attributes.{singlesOf, wordAt, wordsOf};
 pub fn count(descriptor: Descriptor, k: usize) -> u32
     ensures { λ r. ⌜ r ≡ singlesOf descriptor k ⌝ }
 {
-    let field = layout::read_field(descriptor, k);
+    let field = fields::read_field(descriptor, k);
     let mode = field.mode;
     let format = field.format;
     if mode != 1 {
@@ -17,10 +17,10 @@ pub fn count(descriptor: Descriptor, k: usize) -> u32
     if format != 4 {
         return 0;
     }
-    if layout::is_colour(k) {
+    if fields::is_colour(k) {
         return 0;
     }
-    layout::components(k, field.count)
+    fields::components(k, field.count)
 }
 
 // Word i of n that start at a place, 0 from the n-th on.

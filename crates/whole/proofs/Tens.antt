@@ -12,8 +12,9 @@ use lib.ListN.{length, getD, take, drop, set, replicate, length-append, length-d
 use lib.Seq.{take-suc, drop-drop, drop-cons, set-at, append-snoc, take-at, drop-at, length-take-le}
 use borrow.Author.Tests.{lt-ltb}
 use Rattle.laws.specs.Values.{upTo}
-use Rattle.layout.specs.declared.Descriptor.{Descriptor}
-use Rattle.layout.specs.Sizes.{componentsOf, sizeOf, offsetOf}
+use Rattle.fields.specs.declared.Descriptor.{Descriptor}
+use Rattle.fields.specs.Components.{componentsOf}
+use Rattle.layout.specs.Sizes.{sizeOf, offsetOf}
 use Rattle.layout.proofs.Tests.{sum-next}
 use Rattle.vertex.specs.Attributes.{bitsOf, paddedList, componentList, attributeList}
 use Rattle.vertex.specs.Answers.{refusalAt}

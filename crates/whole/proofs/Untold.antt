@@ -8,13 +8,15 @@ use native.Mathlib.Omega.{arith}
 use lib.Dec.{lit≤}
 use lib.ListN.{replicate, length, take, drop-of-length-le}
 use borrow.Author.Tests.{lt-ltb}
-use Rattle.layout.specs.declared.Descriptor.{Descriptor}
-use Rattle.layout.specs.declared.Field.{Field}
-use Rattle.layout.specs.Fields.{modeOf, fieldOf}
+use Rattle.fields.specs.declared.Descriptor.{Descriptor}
+use Rattle.fields.specs.declared.Field.{Field}
+use Rattle.fields.specs.Fields.{modeOf, fieldOf}
 use Rattle.component.specs.Component.{widthOf}
-use Rattle.layout.specs.Sizes.{isColour, componentsOf, colourWidth, directOf, sizeOf, offsetOf}
+use Rattle.fields.specs.Components.{isColour, componentsOf, colourWidth}
+use Rattle.layout.specs.Sizes.{directOf, sizeOf, offsetOf}
 use Rattle.layout.proofs.Tests.{size-matrix, size-absent, size-direct, size-indexed}
-use Rattle.layout.proofs.Bounds.{mode-le, indices-le, indices-some, size-small, offset-le, room}
+use Rattle.fields.proofs.Bounds.{mode-le, indices-le, indices-some}
+use Rattle.layout.proofs.Bounds.{size-small, offset-le, room}
 use Rattle.vertex.specs.Attributes.{directList, indexList, attributeList}
 use Rattle.vertex.proofs.Lists.{attribute-absent, attribute-direct, attribute-indexed}
 use Rattle.encoding.specs.Told.{padded}

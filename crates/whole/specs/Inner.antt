@@ -7,9 +7,9 @@ use lib.Dec.{eqb, ltb}
 use lib.ListN.{length, take, drop}
 use Rattle.laws.specs.Values.{upTo}
 use Rattle.octets.specs.BigEndian.{bigEndian}
-use Rattle.layout.specs.declared.Descriptor.{Descriptor}
-use Rattle.layout.specs.declared.Field.{Field}
-use Rattle.layout.specs.Fields.{fieldOf}
+use Rattle.fields.specs.declared.Descriptor.{Descriptor}
+use Rattle.fields.specs.declared.Field.{Field}
+use Rattle.fields.specs.Fields.{fieldOf}
 use Rattle.layout.specs.Sizes.{offsetOf}
 use Rattle.vertex.specs.Attributes.{bitsOf, attributeList}
 use Rattle.encoding.specs.Told.{padded}

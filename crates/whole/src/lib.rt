@@ -1,15 +1,28 @@
 // Attributes of a vertex as words, ten for each, the kind and nine values: one alone, or all 21 in order.
 mod components;
 
-use layout::Descriptor;
-use layout::Field;
+use fields::Descriptor;
+use fields::Field;
+use fields::attributes::COLOUR0;
+use fields::attributes::COLOUR1;
+use fields::attributes::NORMAL;
+use fields::attributes::POSITION;
+use fields::attributes::TEXTURE0;
+use fields::attributes::TEXTURE1;
+use fields::attributes::TEXTURE2;
+use fields::attributes::TEXTURE3;
+use fields::attributes::TEXTURE4;
+use fields::attributes::TEXTURE5;
+use fields::attributes::TEXTURE6;
+use fields::attributes::TEXTURE7;
+use fields::read_field;
 use layout::LayoutAnswer;
 use refusal::Reason;
 ghost use mathlib.Core.Path.{_≡_};
 ghost use Prim.Native.Nat.{_+_, _*_, _<_, _≤_};
 ghost use lib.ListN.{length};
 ghost use Rattle.component.specs.Component.{widthOf};
-ghost use Rattle.layout.specs.Fields.{fieldOf};
+ghost use Rattle.fields.specs.Fields.{fieldOf};
 ghost use Rattle.layout.specs.Sizes.{directOf, sizeOf, offsetOf};
 ghost use Rattle.vertex.specs.Attributes.{directList, indexList, attributeList};
 ghost use Rattle.encoding.specs.Told.{padded};
@@ -53,8 +66,8 @@ fn kind(k: usize) -> u32
     ensures { λ r. ⌜ r ≡ fewKind k ⌝ }
 {
     match k {
-        9 => 5,
-        10 => 7,
+        POSITION => 5,
+        NORMAL => 7,
         _ => 6,
     }
 }
@@ -68,12 +81,12 @@ fn put_direct(k: usize, field: Field, vertex: &[u8], at: u32, slot: usize, value
 {
     let format = field.format;
     let fraction = field.fraction;
-    if layout::is_colour(k) {
-        let n = components::number_in(vertex, at, layout::colour_width(format));
+    if fields::is_colour(k) {
+        let n = components::number_in(vertex, at, fields::colour_width(format));
         put(values, slot, [4, n, 0, 0, 0, 0, 0, 0, 0, 0]);
         return;
     }
-    let n = layout::components(k, field.count);
+    let n = fields::components(k, field.count);
     if n == 9 {
         put(
             values,
@@ -103,10 +116,10 @@ fn index_words(vertex: &[u8], at: u32, times: u32, n: u32) -> [u32; 10]
 fn direct_bytes(k: usize, count: u32, format: u32) -> u32
     ensures { λ r. ⌜ r ≡ directOf k count format ⌝ }
 {
-    if layout::is_colour(k) {
-        return layout::colour_width(format);
+    if fields::is_colour(k) {
+        return fields::colour_width(format);
     }
-    layout::components(k, count) * component::width(format)
+    fields::components(k, count) * component::width(format)
 }
 
 // Puts attribute k, which is no matrix, from a slot on.
@@ -186,7 +199,7 @@ fn tell_matrices(d: Descriptor, vertex: &[u8], values: &mut [u32]) -> u32
     let vcd = d.vcd0;
     let mut at: u32 = 0;
     let mut k: usize = 0;
-    while k < 9 {
+    while k < POSITION {
         let bit = (vcd >> (k as u32)) % 2;
         put(values, 10 * k, matrix_words(bit, vertex, at));
         at += bit;
@@ -200,11 +213,11 @@ fn tell_fore(d: Descriptor, vertex: &[u8], at: u32, values: &mut [u32]) -> u32
     requires { ⌜ (length (now vertex) ≡ offsetOf d 21) × (at ≡ offsetOf d 9) × (length (now values) ≡ 210) ⌝ }
     ensures { λ r. ⌜ TellsFrom d (now (vertex .entry)) 9 14 (now (values .entry)) r (now (values .exit)) ⌝ }
 {
-    let a = tell(d, layout::read_field(d, 9), 9, vertex, at, 90, values);
-    let b = tell(d, layout::read_field(d, 10), 10, vertex, a, 100, values);
-    let c = tell(d, layout::read_field(d, 11), 11, vertex, b, 110, values);
-    let e = tell(d, layout::read_field(d, 12), 12, vertex, c, 120, values);
-    tell(d, layout::read_field(d, 13), 13, vertex, e, 130, values)
+    let a = tell(d, read_field(d, POSITION), POSITION, vertex, at, 90, values);
+    let b = tell(d, read_field(d, NORMAL), NORMAL, vertex, a, 100, values);
+    let c = tell(d, read_field(d, COLOUR0), COLOUR0, vertex, b, 110, values);
+    let e = tell(d, read_field(d, COLOUR1), COLOUR1, vertex, c, 120, values);
+    tell(d, read_field(d, TEXTURE0), TEXTURE0, vertex, e, 130, values)
 }
 
 // Tells the textures past the first.
@@ -212,13 +225,21 @@ fn tell_textures(d: Descriptor, vertex: &[u8], at: u32, values: &mut [u32]) -> u
     requires { ⌜ (length (now vertex) ≡ offsetOf d 21) × (at ≡ offsetOf d 14) × (length (now values) ≡ 210) ⌝ }
     ensures { λ r. ⌜ TellsFrom d (now (vertex .entry)) 14 21 (now (values .entry)) r (now (values .exit)) ⌝ }
 {
-    let a = tell(d, layout::read_field(d, 14), 14, vertex, at, 140, values);
-    let b = tell(d, layout::read_field(d, 15), 15, vertex, a, 150, values);
-    let c = tell(d, layout::read_field(d, 16), 16, vertex, b, 160, values);
-    let e = tell(d, layout::read_field(d, 17), 17, vertex, c, 170, values);
-    let f = tell(d, layout::read_field(d, 18), 18, vertex, e, 180, values);
-    let g = tell(d, layout::read_field(d, 19), 19, vertex, f, 190, values);
-    tell(d, layout::read_field(d, 20), 20, vertex, g, 200, values)
+    let a = tell(
+        d,
+        read_field(d, TEXTURE1),
+        TEXTURE1,
+        vertex,
+        at,
+        140,
+        values,
+    );
+    let b = tell(d, read_field(d, TEXTURE2), TEXTURE2, vertex, a, 150, values);
+    let c = tell(d, read_field(d, TEXTURE3), TEXTURE3, vertex, b, 160, values);
+    let e = tell(d, read_field(d, TEXTURE4), TEXTURE4, vertex, c, 170, values);
+    let f = tell(d, read_field(d, TEXTURE5), TEXTURE5, vertex, e, 180, values);
+    let g = tell(d, read_field(d, TEXTURE6), TEXTURE6, vertex, f, 190, values);
+    tell(d, read_field(d, TEXTURE7), TEXTURE7, vertex, g, 200, values)
 }
 
 // Tells attribute k alone.
@@ -226,12 +247,12 @@ fn tell_any(d: Descriptor, k: usize, vertex: &[u8], at: u32, values: &mut [u32])
     requires { ⌜ Alone d k (now vertex) at (now values) ⌝ }
     ensures { λ _. ⌜ now (values .exit) ≡ padded 10 (attributeList d k (now (vertex .entry)) (offsetOf d k)) ⌝ }
 {
-    if k < 9 {
+    if k < POSITION {
         let bit = (d.vcd0 >> (k as u32)) % 2;
         put(values, 0, matrix_words(bit, vertex, at));
         return;
     }
-    put_any(d, layout::read_field(d, k), k, vertex, at, 0, values);
+    put_any(d, read_field(d, k), k, vertex, at, 0, values);
 }
 
 // The same; positions, which are asked for most, have a way of their own, with constant places.
@@ -239,8 +260,8 @@ fn tell_one(d: Descriptor, k: usize, vertex: &[u8], at: u32, values: &mut [u32])
     requires { ⌜ Alone d k (now vertex) at (now values) ⌝ }
     ensures { λ _. ⌜ now (values .exit) ≡ padded 10 (attributeList d k (now (vertex .entry)) (offsetOf d k)) ⌝ }
 {
-    if k == 9 {
-        put_any(d, layout::read_field(d, 9), 9, vertex, at, 0, values);
+    if k == POSITION {
+        put_any(d, read_field(d, POSITION), POSITION, vertex, at, 0, values);
         return;
     }
     tell_any(d, k, vertex, at, values);
@@ -281,7 +302,7 @@ pub fn decode_one(
     if let LayoutAnswer::Refused(reason) = answer {
         return LayoutAnswer::Refused(reason);
     }
-    if 20 < k {
+    if TEXTURE7 < k {
         return LayoutAnswer::Refused(Reason::NotOfLayout);
     }
     if vertex.len() != bytes as usize {

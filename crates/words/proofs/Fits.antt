@@ -14,7 +14,7 @@ use Rattle.fifo.specs.declared.Window.{Window}
 use Rattle.fifo.specs.declared.Fifo.{Fifo}
 use Rattle.command.specs.declared.Draw.{Draw}
 use Rattle.fifo.specs.Window.{readyBy}
-use Rattle.processor.specs.Gate.{bpFits, cpFits, controlFits, drawFits, registersFit, stateFits, gateBy, gateOf}
+use Rattle.machine.specs.Gate.{bpFits, cpFits, controlFits, drawFits, registersFit, stateFits, gateBy, gateOf}
 use Rattle.words.specs.declared.state.Front.the-variants.{Held, Wide}
 use Rattle.words.specs.State.{windowOf, leftOf, drawOf, fifoOf, cpOf, bpOf, stateAt}
 use Rattle.words.specs.Front.{fits, frontOf}

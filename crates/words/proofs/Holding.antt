@@ -19,8 +19,8 @@ use Rattle.command.proofs.Ranges.{of-unless, look-ranges}
 use Rattle.effect.specs.Effect.{openedBy, countedDown, drawAfter}
 use Rattle.effect.proofs.Lengths.{length-cp, length-bp}
 use Rattle.fifo.specs.declared.Fifo.{Fifo}
-use Rattle.processor.specs.State.{State, stateOf, freshMachine}
-use Rattle.processor.specs.Gate.{gateOf}
+use Rattle.machine.specs.State.{State, stateOf, freshMachine}
+use Rattle.machine.specs.Gate.{gateOf}
 use Rattle.processor.specs.Step.{queueOf, lookAt, executed, after, stepFound, stepOf}
 use Rattle.processor.proofs.Valid.{queue-octets}
 use Rattle.running.proofs.Invariant.{run-keeps}

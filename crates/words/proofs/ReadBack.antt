@@ -9,7 +9,7 @@ use borrow.Author.Tests.{lt-ltb}
 use Rattle.command.specs.declared.Draw.{Draw}
 use Rattle.command.specs.declared.Draw.the-variants.{Closed, Open}
 use Rattle.fifo.specs.declared.Fifo.{Fifo}
-use Rattle.processor.specs.State.{State}
+use Rattle.machine.specs.State.{State}
 use Rattle.words.specs.State.{fifoOf, drawOf, cpOf, bpOf, stateAt, wordsBy, stateWords, HoldsDraw, Holds}
 
 module _ (f : Fifo) (cp bp : List ℕ) where

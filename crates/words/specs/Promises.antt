@@ -6,7 +6,7 @@ use Prim.Native.Nat.{ℕ}
 use lib.ListN.{length}
 use Rattle.octets.specs.BigEndian.{Octets}
 use Rattle.fifo.specs.declared.Fifo.{Fifo}
-use Rattle.processor.specs.State.{State, stateOf, freshMachine}
+use Rattle.machine.specs.State.{State, stateOf, freshMachine}
 use Rattle.processor.specs.Step.{stepOf}
 use Rattle.running.specs.Run.{runOf}
 use Rattle.words.specs.State.{cpOf, bpOf, drawOf, stateAt, stateWords, freshWords, fifoStored}

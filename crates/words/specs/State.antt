@@ -10,7 +10,7 @@ use Rattle.command.specs.declared.Draw.{Draw}
 use Rattle.command.specs.declared.Draw.the-variants.{Closed, Open}
 use Rattle.fifo.specs.declared.Window.{Window}
 use Rattle.fifo.specs.declared.Fifo.{Fifo}
-use Rattle.processor.specs.State.{State, stateOf, freshMachine}
+use Rattle.machine.specs.State.{State, stateOf, freshMachine}
 
 -- ---- what words say: each number as it stands, so that document 01's refusal 1 finds those that are out of range
 

@@ -10,8 +10,8 @@ use lib.Ieee.{round, toBits, ofBits}
 use Rattle.laws.specs.Values.{upTo}
 use Rattle.octets.specs.BigEndian.{bigEndian, bytesOf}
 use Rattle.component.specs.Component.{componentOf}
-use Rattle.layout.specs.declared.Descriptor.{Descriptor}
-use Rattle.layout.specs.Fields.{bitsAt, modes, counts, formats, shifts, modeOf, countOf, formatOf, fractionBits, fractionOf, indicesOf}
+use Rattle.fields.specs.declared.Descriptor.{Descriptor}
+use Rattle.fields.specs.Fields.{bitsAt, modes, counts, formats, shifts, modeOf, countOf, formatOf, fractionBits, fractionOf, indicesOf}
 use Rattle.layout.specs.Sizes.{directOf, sizeOf, offsetOf, unknownAt, anyUnknown}
 use Rattle.layout.specs.Answers.{refusalOf, acceptedOf, lengthOf}
 use Rattle.vertex.specs.Attributes.{rawAt, componentAt, paddedList, componentList, directList, attributeList}
@@ -19,7 +19,7 @@ use Rattle.vertex.specs.Answers.{refusalAt, decodingOf}
 use Rattle.command.specs.Command.{Found, unit, waiting, refused}
 use Rattle.command.specs.declared.Draw.{Draw}
 use Rattle.command.specs.declared.Draw.the-variants.{Closed, Open}
-use Rattle.command.specs.Places.{vcdPlace, vatPlace}
+use Rattle.places.specs.Places.{vcdPlace, vatPlace}
 use Rattle.command.specs.Look.{whole, lookCp, xfWords, xfAddress, lookXf, descriptorOf, lookVertex, byOpcode, lookOf}
 use Rattle.effect.specs.Effect.{masked, storedBp, loadedBp}
 use Rattle.writer.specs.Write.{headOf, wordsOf, wordBytes, commandBytes}

@@ -15,7 +15,7 @@ use Rattle.octets.proofs.Number.{Octets, big-lt, octets-take}
 use Rattle.layout.specs.Answers.{refusalOf}
 use Rattle.command.specs.declared.Draw.the-variants.{Closed}
 use Rattle.command.specs.Command.{Found, unit, waiting, refused, loadXf}
-use Rattle.command.specs.Places.{cpAccepted}
+use Rattle.places.specs.Places.{cpAccepted}
 use Rattle.command.specs.Look.{xfCount, whole, lookCp, xfWords, xfAddress, lookXf, indexedArray, lookIndexed, lookCall, lookBp}
 use Rattle.command.specs.Look.{descriptorOf, unlessRefused, lookHead, isIndexed, isDraw, byOpcode, lookOf}
 use Rattle.command.specs.Bounds.{Fair}
@@ -23,7 +23,8 @@ use Rattle.command.proofs.Bounds.{look-fair}
 use Rattle.command.proofs.Prefix.{look-alone}
 use Rattle.effect.proofs.Lengths.{length-loaded}
 use Rattle.effect.specs.Effect.{loadedXf, xfAfter}
-use Rattle.writer.specs.Write.{headOf, wordsOf, unwritable, unaddressed, pastEnd}
+use Rattle.writer.specs.Write.{headOf, wordsOf}
+use Rattle.writable.specs.Writable.{unwritable, unaddressed, pastEnd}
 use Rattle.writer.specs.Again.{heldWords}
 use Rattle.writer.proofs.Again.{indexed-op, plain-again, bp-again, cp-again, call-again, indexed-again}
 use Rattle.writer.proofs.Again.{head-again, xf-again}

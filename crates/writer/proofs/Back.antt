@@ -15,9 +15,10 @@ use Rattle.command.specs.declared.Command.{Command}
 use Rattle.command.specs.declared.Command.the-variants.{NoOperation, InvalidateCache, Metrics, LoadCp, LoadXf, LoadIndexed}
 use Rattle.command.specs.declared.Command.the-variants.{CallList, LoadBp, DrawHead, Vertex}
 use Rattle.command.specs.Command.{unit, kindOf, fieldOf, numbersOf}
-use Rattle.command.specs.Places.{cpAccepted}
+use Rattle.places.specs.Places.{cpAccepted}
 use Rattle.command.specs.Look.{xfCount, descriptorOf, byOpcode}
-use Rattle.writer.specs.Write.{headOf, wordsOf, wordBytes, commandBytes, unwritable, unaddressed, pastEnd}
+use Rattle.writer.specs.Write.{headOf, wordsOf, wordBytes, commandBytes}
+use Rattle.writable.specs.Writable.{unwritable, unaddressed, pastEnd}
 use Rattle.writer.specs.Widths.{Typed, reported}
 pub use Rattle.writer.specs.Back.{LooksBack}
 use Rattle.writer.proofs.Words.{length-words}

@@ -14,7 +14,8 @@ use Rattle.octets.proofs.Written.{length-bytes, shift, read-back}
 use Rattle.command.specs.Command.{loadXf}
 use Rattle.command.specs.Look.{xfCount}
 use Rattle.effect.specs.Effect.{storedXf, loadedXf, xfAfter}
-use Rattle.writer.specs.Write.{headOf, wordsOf, wordBytes, commandBytes, unwritable, pastEnd}
+use Rattle.writer.specs.Write.{headOf, wordsOf, wordBytes, commandBytes}
+use Rattle.writable.specs.Writable.{unwritable, pastEnd}
 use Rattle.writer.specs.Again.{heldWords}
 use Rattle.writer.specs.Back.{Writable, WordsFit, LoadsBack}
 use Rattle.writer.proofs.Words.{length-words}

@@ -15,8 +15,10 @@ use Rattle.refusal.specs.declared.Reason.the-variants.{UnwritableCommand, Unkno
 use Rattle.refusal.proofs.Positive.{number-some}
 use Rattle.command.specs.Command.{kindOf, fieldOf}
 use Rattle.writer.specs.declared.Written.the-variants.{Bytes, Refused}
-use Rattle.writer.specs.Write.{headOf, wordsOf, wordBytes, commandBytes, unwritable, unaddressed}
-use Rattle.writer.specs.Write.{pastEnd, refusalOf, placed, headThenWords, Writes}
+use Rattle.writer.specs.Write.{headOf, wordsOf, wordBytes, commandBytes}
+use Rattle.writable.specs.Writable.{unwritable, unaddressed}
+use Rattle.writable.specs.Writable.{pastEnd}
+use Rattle.writer.specs.Write.{refusalOf, placed, headThenWords, Writes}
 use Rattle.writer.proofs.Words.{length-words}
 
 -- a writable command is lent the words that it names

@@ -12,10 +12,11 @@ use Rattle.octets.proofs.Written.{length-bytes, read-back}
 use Rattle.layout.specs.Answers.{refusalOf}
 use Rattle.command.specs.declared.Draw.the-variants.{Closed}
 use Rattle.command.specs.Command.{unit, loadBp, loadCp, callList, drawHead, loadXf, loadIndexed}
-use Rattle.command.specs.Places.{cpAccepted}
+use Rattle.places.specs.Places.{cpAccepted}
 use Rattle.command.specs.Look.{xfCount, whole, lookCp, lookBp, lookCall, xfWords, xfAddress, lookXf}
 use Rattle.command.specs.Look.{descriptorOf, lookHead, lookIndexed, indexedArray, memoryOf, byOpcode, lookOf}
-use Rattle.command.proofs.Opcodes.{at-opcode, at-indexed, at-head, Other}
+use Rattle.command.proofs.Opcodes.{at-opcode, at-indexed, at-head}
+use Rattle.command.proofs.Decided.{head-other}
 use Rattle.writer.specs.Write.{lengthField}
 
 -- a unit whose bytes are there
@@ -113,26 +114,6 @@ module _ (rest cp : List ℕ) where
       ∙ there (length (op ∷ l)) 5 _ _ (omega arith)
       ∙ rw (a, b, k, q, r)
 
-  -- the opcode of a draw is none of the single ones
-  other : (op : ℕ) → 0x80 ≤ op → Other op
-  other op h =
-      record {
-        no-operation = λ e. omega arith;
-        invalidate = λ e. omega arith;
-        metrics = λ e. omega arith;
-        cp = λ e. omega arith;
-        xf = λ e. omega arith;
-        indexed = λ e. not-indexed e;
-        call = λ e. omega arith;
-        bp = λ e. omega arith;
-      }
-    where
-      not-indexed : (op ≡ 0x20) ⊎ ((op ≡ 0x28) ⊎ ((op ≡ 0x30) ⊎ (op ≡ 0x38))) → ⊥
-      not-indexed (inl e) = omega arith
-      not-indexed (inr (inl e)) = omega arith
-      not-indexed (inr (inr (inl e))) = omega arith
-      not-indexed (inr (inr (inr e))) = omega arith
-
   pub head-back : (primitive format count : ℕ) → primitive < 8 → format < 8 → count < 65536 → refusalOf (descriptorOf cp format) ≡ 0
       → lookOf ((0x80 + 8 * (primitive % 8) + format % 8) ∷ (bytesOf 2 count ++ rest))
       (length ((0x80 + 8 * (primitive % 8) + format % 8) ∷ (bytesOf 2 count ++ rest))) cp Closed
@@ -145,5 +126,5 @@ module _ (rest cp : List ℕ) where
       let k : op / 8 % 8 ≡ primitive = omega arith in
       let q : op % 8 ≡ format = omega arith in
       sym (opened op l cp)
-      ∙ sym (at-head (op ∷ l) (length (op ∷ l)) cp (other op (omega arith)) (omega arith) (omega arith))
+      ∙ sym (at-head (op ∷ l) (length (op ∷ l)) cp (head-other op (omega arith)) (omega arith) (omega arith))
       ∙ rw (q, e, a, k) (there (length (op ∷ l)) 3 (drawHead primitive format count) 0 (omega arith))

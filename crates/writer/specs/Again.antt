@@ -7,7 +7,8 @@ use lib.Dec.{eqb}
 use lib.ListN.{length, getD, take, drop}
 use Rattle.command.specs.Command.{kindOf, fieldOf}
 use Rattle.effect.specs.Effect.{xfAfter}
-use Rattle.writer.specs.Write.{wordsOf, commandBytes, unwritable, unaddressed, pastEnd}
+use Rattle.writer.specs.Write.{wordsOf, commandBytes}
+use Rattle.writable.specs.Writable.{unwritable, unaddressed, pastEnd}
 
 -- the bytes of a unit with an XF length below 16
 unfoldable pub lowered : List ℕ → List ℕ → List ℕ

@@ -8,7 +8,8 @@ use Rattle.command.specs.declared.Command.{Command}
 use Rattle.command.specs.declared.Draw.the-variants.{Closed}
 use Rattle.command.specs.Command.{unit, numbersOf}
 use Rattle.command.specs.Look.{lookOf}
-use Rattle.writer.specs.Write.{commandBytes, unwritable, unaddressed, pastEnd}
+use Rattle.writer.specs.Write.{commandBytes}
+use Rattle.writable.specs.Writable.{unwritable, unaddressed, pastEnd}
 use Rattle.writer.specs.Widths.{reported}
 use Rattle.writer.specs.Again.{heldWords}
 

@@ -1,6 +1,5 @@
 // One command as the bytes of its unit.
 mod heads;
-mod tests;
 
 use command::Command;
 use refusal::Reason;
@@ -58,13 +57,13 @@ fn put(out: &mut [u8], bytes: [u8; 9], at: usize, words: &[u32], n: usize)
 pub fn write(command: Command, words: &[u32], out: &mut [u8]) -> Written
     ensures { λ r. ⌜ Writes (numbersOf command) (now (words .entry)) (now (out .entry)) r (now (out .exit)) ⌝ }
 {
-    if tests::unwritable(command, words.len()) {
+    if writable::unwritable(command, words.len()) {
         return Written::Refused(Reason::UnwritableCommand);
     }
-    if tests::unaddressed(command) {
+    if writable::unaddressed(command) {
         return Written::Refused(Reason::UnknownCpAddress);
     }
-    if tests::past_end(command) {
+    if writable::past_end(command) {
         return Written::Refused(Reason::XfLoadPastEnd);
     }
     let head = heads::head(command);

@@ -1,13 +1,14 @@
 -- The test is that for a NaN pattern: above it the code divides zero by zero, which is the one NaN, and else the pattern makes the
 -- single.
 use mathlib.Core.Path.{_≡_, refl, sym, _∙_, subst}
-use mathlib.Core.Bool.{Bool, not}
 use Prim.Native.Nat.{_%_}
 use lib.Dec.{T}
 use lib.Ieee.{nan, binary32, ofBits, div}
 use lib.Ieee.Bits.{nanBits-above}
-use borrow.Author.Tests.{lt-ltb, le-ltb}
+use borrow.Author.Tests.{lt-ltb}
+use native.Mathlib.Omega.{arith}
 use borrow.Author.Needs.{needs}
+use Rattle.component.proofs.NotNan.{not-nan}
 use Rattle.component.proofs.Patterns.{nan-bits}
 use Rattle.component.proofs.of_bits.Statement.{statement}
 use Rattle.component.proofs.of_bits.Tie as tie
@@ -17,9 +18,7 @@ unfolding div ofBits
 zero-by-zero = refl
 
 float-from-bits-result : tie.Need-float-from-bits-result
-float-from-bits-result c =
-    let b = c .before .args .b in
-    subst (λ (t : Bool). T (not t)) (sym (nanBits-above binary32 b ∙ le-ltb 2139095040 (b % 2147483648) (c .if1 .left))) tt
+float-from-bits-result c = not-nan (c .before .args .b) (omega (arith, c .if1 .left))
 
 returns : tie.Need-returns
 returns c =

@@ -1,6 +1,8 @@
 -- One computed test over the 32 shifts: the pattern (127 - s) * 2 ^ 23 is 2 ^ -s.
 use borrow.Author.Needs.{needs}
-use Rattle.component.proofs.TwoTo.{pattern, pattern-no-nan}
+use native.Mathlib.Omega.{arith}
+use Rattle.component.proofs.TwoTo.{pattern}
+use Rattle.component.proofs.NotNan.{not-nan}
 use Rattle.component.proofs.power.Statement.{statement}
 use Rattle.component.proofs.power.Tie as tie
 
@@ -11,7 +13,7 @@ mul-result : tie.Need-mul-result
 mul-result c = search needs
 
 float-from-bits-result : tie.Need-float-from-bits-result
-float-from-bits-result c = pattern-no-nan (c .args .s) (c .pre)
+float-from-bits-result c = not-nan _ (omega (arith, c .pre))
 
 returns : tie.Need-returns
 returns c = pattern (c .args .s) (c .pre)

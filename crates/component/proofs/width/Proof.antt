@@ -1,17 +1,10 @@
 -- In each arm the format is known and the definition computes; what is none of 0 to 3 has four bytes.
-use mathlib.Core.Path.{_≡_, refl}
-use Prim.Native.Nat.{ℕ, zero, suc}
-use Rattle.component.specs.Component.{widthOf}
+use mathlib.Core.Path.{sym}
+use native.Mathlib.Omega.{arith}
 use borrow.Author.Needs.{needs}
+use Rattle.component.proofs.Widths.{width-single}
 use Rattle.component.proofs.width.Statement.{statement}
 use Rattle.component.proofs.width.Tie as tie
-
-wide : (f : ℕ) → (f ≡ 0 → ⊥) → (f ≡ 1 → ⊥) → (f ≡ 2 → ⊥) → (f ≡ 3 → ⊥) → 4 ≡ widthOf f
-wide zero a b c d = absurd (a refl)
-wide (suc zero) a b c d = absurd (b refl)
-wide (suc (suc zero)) a b c d = absurd (c refl)
-wide (suc (suc (suc zero))) a b c d = absurd (d refl)
-wide (suc (suc (suc (suc n)))) a b c d = refl
 
 returns : tie.Need-returns
 returns c = search needs
@@ -26,9 +19,7 @@ returns-4 : tie.Need-returns-4
 returns-4 c = search needs
 
 returns-5 : tie.Need-returns-5
-returns-5 c =
-    let r = c .match .rest in
-    wide (c .before .args .format) (r .0 .0 .0 .1) (r .0 .0 .1) (r .0 .1) (r .1)
+returns-5 c = sym (width-single (c .before .args .format) (omega (arith, c .match .rest)))
 
 pub width-spec : {M : Type 1} → statement M
 width-spec = tie.close (tie.spec returns returns-2 returns-3 returns-4 returns-5)

@@ -7,7 +7,7 @@ use borrow.Author.Needs.{needs}
 use lib.ListN.{length, take, replicate, getD, length-set}
 use Rattle.laws.specs.Values.{upTo}
 use Rattle.laws.proofs.Filled.{getD-upTo, fill-none, fill-next, fill-all}
-use Rattle.layout.specs.declared.Descriptor.{Descriptor}
+use Rattle.fields.specs.declared.Descriptor.{Descriptor}
 use Rattle.layout.specs.Sizes.{sizeOf, offsetOf}
 use Rattle.layout.proofs.Tests.{sum-none, sum-next}
 use Rattle.layout.proofs.Bounds.{size-small, offset-le}

@@ -1,7 +1,7 @@
 -- Refused by 9, then 10, and else filled.
 use mathlib.Core.Path.{sym, _∙_}
 use Rattle.refusal.specs.declared.Reason.the-variants.{PositionAbsent, UnknownFormat}
-use Rattle.layout.specs.Fields.{bitsAt, modes, modeOf}
+use Rattle.fields.specs.Fields.{bitsAt, modes, modeOf}
 use Rattle.layout.proofs.Meanings.{laid-filled, laid-emptied, refused-absent, refused-unknown, accepted}
 use borrow.Author.Needs.{needs}
 use Rattle.layout.proofs.lay_out.Statement.{statement}

@@ -2,8 +2,8 @@
 use borrow.Author.Needs.{needs}
 use mathlib.Core.Path.{sym, ap, _∙_}
 use Rattle.running.proofs.Runs.{run-refused, run-taken}
-use Rattle.processor.proofs.Passing.{passed}
-use Rattle.processor.specs.Gate.{meaningOfGate}
+use Rattle.machine.proofs.Passing.{passed}
+use Rattle.machine.specs.Gate.{meaningOfGate}
 use Rattle.running.proofs.run.Statement.{statement}
 use Rattle.running.proofs.run.Tie as tie
 

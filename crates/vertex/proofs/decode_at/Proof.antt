@@ -3,9 +3,9 @@ use mathlib.Core.Path.{_≡_, sym, ap, _∙_}
 use mathlib.Core.List.{[], _∷_}
 use Prim.Native.Nat.{ℕ, _-_}
 use native.Mathlib.Omega.{arith}
-use Rattle.layout.specs.declared.Field.{Field}
-use Rattle.layout.specs.Fields.{modeOf}
-use Rattle.layout.proofs.Bounds.{mode-le}
+use Rattle.fields.specs.declared.Field.{Field}
+use Rattle.fields.specs.Fields.{modeOf}
+use Rattle.fields.proofs.Bounds.{mode-le}
 use Rattle.vertex.specs.Attributes.{directList, indexList}
 use Rattle.vertex.proofs.Lists.{attribute-absent, attribute-matrix, attribute-direct, attribute-indexed}
 use borrow.Author.Needs.{needs}

@@ -1,7 +1,7 @@
 -- Both ways read the same field.
 use mathlib.Core.Path.{sym, ap, _∙_}
 use Prim.Native.Nat.{ℕ}
-use Rattle.layout.specs.Fields.{fieldOf}
+use Rattle.fields.specs.Fields.{fieldOf}
 use borrow.Author.Needs.{needs}
 use Rattle.vertex.proofs.field_of.Statement.{statement}
 use Rattle.vertex.proofs.field_of.Tie as tie

@@ -1,12 +1,11 @@
 -- The refusal of the layout, else 19 by number and length, else the sum before the attribute.
 use mathlib.Core.Path.{_≡_, sym, ap, _∙_}
 use mathlib.Core.List.{[], _∷_}
-use Prim.Native.Nat.{ℕ, _<_, min}
+use Prim.Native.Nat.{ℕ, _<_}
 use native.Mathlib.Omega.{arith}
-use Rattle.layout.specs.declared.Descriptor.{Descriptor}
 use Rattle.layout.specs.Sizes.{offsetOf}
 use Rattle.layout.specs.Answers.{refusalOf}
-use Rattle.layout.proofs.Bounds.{length-accepted, offset-le}
+use Rattle.layout.proofs.Bounds.{found-at, length-accepted, offset-le}
 use Rattle.vertex.specs.Answers.{refusalAt}
 use Rattle.vertex.proofs.Refusals.{refused-number, refused-length, accepted-at, unless-refused, unless-accepted, layout-refused}
 use Rattle.vertex.proofs.Refusals.{layout-accepted}
@@ -41,26 +40,13 @@ returns c =
     let at = c .before in
     let a = at .before .before .before .before .args in
     unless-refused (refusalAt (a .descriptor) (a .k) (a .vertex .now)) 19 _ (refused-number (a .descriptor) (a .k) (a .vertex .now)
-    (accepted at) (c .if1 .taken)) (λ e. omega arith)
+    (accepted at) (omega (arith, c .if1 .taken))) (λ e. omega arith)
 
 cast-if2 : tie.Need-cast-if2
 cast-if2 c = search needs
 
-returns-2 : tie.Need-returns-2
-returns-2 c =
-    let at = c .before .before in
-    let a = at .before .before .before .before .args in
-    unless-refused (refusalAt (a .descriptor) (a .k) (a .vertex .now)) 19 _
-    (refused-length (a .descriptor) (a .k) (a .vertex .now) (accepted at) (omega (arith, c .before .if1 .left))
-    (λ h. c .if2 .taken (h ∙ sym (length-is at))))
-    (λ e. omega arith)
-
--- where an attribute starts that there is
-found-at : (d : Descriptor) (k : ℕ) {n : ℕ} → k < 21 → n ≡ offsetOf d (min k 21) → n ≡ offsetOf d k
-found-at d k h e = let m : min k 21 ≡ k = omega arith in e ∙ ap (offsetOf d) m
-
-cast-t15 : tie.Need-cast-t15
-cast-t15 c =
+cast-at : tie.Need-cast-at
+cast-at c =
     let at = c .before .before in
     let a = at .before .before .before .before .args in
     omega (
@@ -68,6 +54,17 @@ cast-t15 c =
       found-at (a .descriptor) (a .k) (omega (arith, c .before .if1 .left)) (at .before .before .find .ensures .offset-is),
       offset-le (a .descriptor) (a .k) (omega (arith, c .before .if1 .left)),
     )
+
+returns-2 : tie.Need-returns-2
+returns-2 c =
+    let at = c .before .before in
+    let spot = at .before .before in
+    let a = spot .before .before .args in
+    let d = a .descriptor in
+    let h : a .k < 21 = omega (arith, c .before .if1 .left) in
+    ap (λ (x : ℕ). 0 ∷ x ∷ []) (found-at d (a .k) h (spot .find .ensures .offset-is))
+    ∙ unless-accepted (refusalAt d (a .k) (a .vertex .now)) (offsetOf d (a .k) ∷ [])
+    (accepted-at d (a .k) (a .vertex .now) (accepted at) h (c .if2 .taken ∙ length-is at))
 
 returns-3 : tie.Need-returns-3
 returns-3 c =
@@ -79,13 +76,11 @@ returns-3 c =
 returns-4 : tie.Need-returns-4
 returns-4 c =
     let at = c .before .before in
-    let spot = at .before .before in
-    let a = spot .before .before .args in
-    let d = a .descriptor in
-    let h : a .k < 21 = omega (arith, c .before .if1 .left) in
-    ap (λ (x : ℕ). 0 ∷ x ∷ []) (found-at d (a .k) h (spot .find .ensures .offset-is))
-    ∙ unless-accepted (refusalAt d (a .k) (a .vertex .now)) (offsetOf d (a .k) ∷ [])
-    (accepted-at d (a .k) (a .vertex .now) (accepted at) h (c .if2 .left ∙ length-is at))
+    let a = at .before .before .before .before .args in
+    unless-refused (refusalAt (a .descriptor) (a .k) (a .vertex .now)) 19 _
+    (refused-length (a .descriptor) (a .k) (a .vertex .now) (accepted at) (omega (arith, c .before .if1 .left))
+    (λ h. c .if2 .left (h ∙ sym (length-is at))))
+    (λ e. omega arith)
 
 pub locate-spec : {M : Type 1} → statement M
 locate-spec =
@@ -96,7 +91,7 @@ locate-spec =
     enum-told
     returns
     cast-if2
+    cast-at
     returns-2
-    cast-t15
     returns-3
     returns-4)

@@ -4,8 +4,8 @@ use mathlib.Core.Bool.{false}
 use mathlib.Core.List.{List, [], _∷_}
 use Prim.Native.Nat.{ℕ}
 use Rattle.octets.specs.BigEndian.{bigEndian, atMostFour}
-use Rattle.layout.specs.Sizes.{isColour}
-use Rattle.layout.proofs.Bounds.{colour-le}
+use Rattle.fields.specs.Components.{isColour}
+use Rattle.fields.proofs.Bounds.{colour-le}
 use Rattle.vertex.specs.declared.Triple.{Triple}
 use Rattle.vertex.specs.Attributes.{componentList, directList}
 use Rattle.vertex.specs.Answers.{tripleBits}

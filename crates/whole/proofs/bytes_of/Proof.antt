@@ -3,10 +3,10 @@ use mathlib.Core.Path.{sym, ap, _∙_}
 use Prim.Native.Nat.{_-_, _*_, _≤_}
 use native.Mathlib.Nat.{mul-le-mul}
 use native.Mathlib.Omega.{arith}
-use Rattle.layout.specs.declared.Field.{Field}
+use Rattle.fields.specs.declared.Field.{Field}
 use Rattle.layout.specs.Sizes.{directOf}
 use Rattle.layout.proofs.Tests.{size-absent, size-direct, size-indexed}
-use Rattle.layout.proofs.Bounds.{mode-le, indices-le}
+use Rattle.fields.proofs.Bounds.{mode-le, indices-le}
 use borrow.Author.Needs.{needs}
 use Rattle.whole.proofs.bytes_of.Statement.{statement}
 use Rattle.whole.proofs.bytes_of.Tie as tie

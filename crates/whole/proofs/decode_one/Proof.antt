@@ -1,12 +1,12 @@
 -- Refused as the layout is, or by the number or the length; else told.
-use mathlib.Core.Path.{_≡_, sym, ap, _∙_}
+use mathlib.Core.Path.{_≡_, sym, _∙_}
 use mathlib.Core.List.{List}
-use Prim.Native.Nat.{ℕ, _<_, min}
+use Prim.Native.Nat.{ℕ, _<_}
 use native.Mathlib.Omega.{arith}
-use Rattle.layout.specs.declared.Descriptor.{Descriptor}
+use Rattle.fields.specs.declared.Descriptor.{Descriptor}
 use Rattle.layout.specs.Sizes.{offsetOf}
 use Rattle.layout.specs.Answers.{refusalOf}
-use Rattle.layout.proofs.Bounds.{length-accepted}
+use Rattle.layout.proofs.Bounds.{found-at, length-accepted}
 use Rattle.vertex.specs.Attributes.{attributeList}
 use Rattle.vertex.proofs.Refusals.{layout-accepted}
 use Rattle.encoding.specs.Told.{padded}
@@ -18,10 +18,6 @@ use Rattle.whole.proofs.decode_one.Tie as tie
 -- the words of attribute k
 abbrev ten-of : Descriptor → ℕ → List ℕ → List ℕ
 ten-of d k l = padded 10 (attributeList d k l (offsetOf d k))
-
--- where an attribute starts that there is
-found-at : (d : Descriptor) (k : ℕ) {n : ℕ} → k < 21 → n ≡ offsetOf d (min k 21) → n ≡ offsetOf d k
-found-at d k h e = let m : min k 21 ≡ k = omega arith in e ∙ ap (offsetOf d) m
 
 -- in the arm of an accepted layout nothing is refused by it
 accepted : (c : tie.After-enum-told) → refusalOf (c .before .before .before .before .args .descriptor) ≡ 0

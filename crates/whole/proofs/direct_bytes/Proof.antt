@@ -4,8 +4,9 @@ use Prim.Native.Nat.{ℕ, _*_}
 use native.Mathlib.Nat.{lt-of-le-of-lt, mul-le-mul, le-trans, le-of-eq}
 use lib.Dec.{lit<}
 use Rattle.component.proofs.Widths.{width-le}
-use Rattle.layout.specs.Sizes.{componentsOf, directOf}
-use Rattle.layout.proofs.Bounds.{components-nine}
+use Rattle.fields.specs.Components.{componentsOf}
+use Rattle.layout.specs.Sizes.{directOf}
+use Rattle.fields.proofs.Bounds.{components-nine}
 use borrow.Author.Needs.{needs}
 use Rattle.whole.proofs.direct_bytes.Statement.{statement}
 use Rattle.whole.proofs.direct_bytes.Tie as tie

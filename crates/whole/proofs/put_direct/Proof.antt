@@ -4,8 +4,8 @@ use mathlib.Core.List.{List}
 use Prim.Native.Nat.{ℕ}
 use native.Mathlib.Omega.{arith}
 use Rattle.octets.specs.BigEndian.{bigEndian, atMostFour}
-use Rattle.layout.specs.Sizes.{colourWidth}
-use Rattle.layout.proofs.Bounds.{colour-le, components-some}
+use Rattle.fields.specs.Components.{colourWidth}
+use Rattle.fields.proofs.Bounds.{colour-le, components-some}
 use Rattle.vertex.proofs.Lists.{direct-colour, direct-other}
 use Rattle.encoding.specs.Told.{padded}
 use Rattle.whole.specs.Inner.{tenAt, fewList, fewKind}

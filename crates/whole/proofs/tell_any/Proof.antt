@@ -1,7 +1,7 @@
 -- A matrix by its bit, else as it is told among all.
 use mathlib.Core.Path.{sym, _∙_}
 use native.Mathlib.Omega.{arith}
-use Rattle.layout.proofs.Modes.{matrix-mode}
+use Rattle.fields.proofs.Modes.{matrix-mode}
 use Rattle.whole.proofs.Untold.{ten-only, matrix-list}
 use borrow.Author.Needs.{needs}
 use Rattle.whole.proofs.tell_any.Statement.{statement}

@@ -5,9 +5,9 @@ use Prim.Native.Nat.{ℕ, _+_, _-_, _/_, _%_, _^_, _<_, _≤_}
 use native.Mathlib.Omega.{arith}
 use lib.ListN.{length}
 use borrow.Author.Needs.{needs}
-use Rattle.layout.specs.declared.Descriptor.{Descriptor}
-use Rattle.layout.specs.Fields.{modeOf}
-use Rattle.layout.proofs.Modes.{matrix-mode}
+use Rattle.fields.specs.declared.Descriptor.{Descriptor}
+use Rattle.fields.specs.Fields.{modeOf}
+use Rattle.fields.proofs.Modes.{matrix-mode}
 use Rattle.whole.specs.Inner.{TellsFrom}
 use Rattle.whole.proofs.Tens.{moves-none, moves-then}
 use Rattle.whole.proofs.Untold.{matrix-told}

@@ -1,7 +1,7 @@
 -- `writer::words_named` meets its contract: only an XF load names words.
 use borrow.Author.Needs.{needs}
 use lib.Dec.{lit≤}
-use Rattle.writer.proofs.Others.{no-xf}
+use Rattle.writable.proofs.Others.{no-xf}
 use Rattle.writer.specs.Write.{wordsOf}
 use Rattle.writer.proofs.words_named.Statement.{statement}
 use Rattle.writer.proofs.words_named.Tie as tie

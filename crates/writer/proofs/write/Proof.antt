@@ -7,7 +7,8 @@ use Prim.Native.Nat.{ℕ}
 use native.Mathlib.Omega.{arith}
 use lib.ListN.{length}
 use Rattle.writer.proofs.Outcomes.{by-unwritable, by-address, by-end, by-room, by-writing, words-lent}
-use Rattle.writer.specs.Write.{unwritable, unaddressed, pastEnd, headThenWords}
+use Rattle.writable.specs.Writable.{unwritable, unaddressed, pastEnd}
+use Rattle.writer.specs.Write.{headThenWords}
 use Rattle.command.specs.Command.{numbersOf}
 use Rattle.writer.proofs.write.Statement.{statement}
 use Rattle.writer.proofs.write.Tie as tie

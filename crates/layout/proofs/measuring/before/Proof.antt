@@ -3,10 +3,10 @@ use mathlib.Core.Path.{_≡_, sym, ap, _∙_}
 use Prim.Native.Nat.{ℕ}
 use native.Mathlib.Omega.{arith}
 use lib.Dec.{lit<}
-use Rattle.layout.specs.declared.Descriptor.{Descriptor}
+use Rattle.fields.specs.declared.Descriptor.{Descriptor}
 use Rattle.layout.specs.Sizes.{offsetOf}
 use Rattle.layout.proofs.Bounds.{offset-le}
-use Rattle.layout.proofs.Modes.{beyond}
+use Rattle.fields.proofs.Modes.{beyond}
 use Rattle.layout.proofs.Sums.{Sums, sums}
 use borrow.Author.Needs.{needs}
 use Rattle.layout.proofs.measuring.before.Statement.{statement}

@@ -1,6 +1,6 @@
 -- No position is 9, an unknown format 10, and else the length is the sum of all attributes.
 use mathlib.Core.Path.{refl}
-use Rattle.layout.specs.Fields.{bitsAt, modes, modeOf}
+use Rattle.fields.specs.Fields.{bitsAt, modes, modeOf}
 use Rattle.layout.proofs.Meanings.{measured}
 use borrow.Author.Needs.{needs}
 use Rattle.layout.proofs.measuring.measured.Statement.{statement}

@@ -1,5 +1,5 @@
 -- Each texture is weighed by its fields at their places; absent ones add nothing.
-use Rattle.layout.specs.declared.Descriptor.{Descriptor}
+use Rattle.fields.specs.declared.Descriptor.{Descriptor}
 use Rattle.layout.specs.Inner.{asked}
 use Rattle.layout.proofs.Present.{textures-absent}
 use Rattle.layout.proofs.Weighed.{textures-of}

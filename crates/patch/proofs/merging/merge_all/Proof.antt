@@ -18,17 +18,23 @@ abbrev μ-loop : tie.MeasureT-loop
 loop-holds : tie.Need-loop-holds Inv-loop μ-loop
 loop-holds c = merging-none _ _ _ _ (c .before .before .before .before .before .before .pre .of-out)
 
+mul-of-a : tie.Need-mul-of-a Inv-loop μ-loop
+mul-of-a c = search needs
+
+shared-slice-read-of-a : tie.Need-shared-slice-read-of-a Inv-loop μ-loop
+shared-slice-read-of-a c = search needs
+
+mul-of-b : tie.Need-mul-of-b Inv-loop μ-loop
+mul-of-b c = search needs
+
+shared-slice-read-of-b : tie.Need-shared-slice-read-of-b Inv-loop μ-loop
+shared-slice-read-of-b c = search needs
+
 mul-a : tie.Need-mul-a Inv-loop μ-loop
 mul-a c = search needs
 
 shared-slice-read-a : tie.Need-shared-slice-read-a Inv-loop μ-loop
 shared-slice-read-a c = search needs
-
-mul-mask : tie.Need-mul-mask Inv-loop μ-loop
-mul-mask c = search needs
-
-shared-slice-read-mask : tie.Need-shared-slice-read-mask Inv-loop μ-loop
-shared-slice-read-mask c = search needs
 
 mul-b : tie.Need-mul-b Inv-loop μ-loop
 mul-b c = search needs
@@ -38,12 +44,6 @@ shared-slice-read-b c = search needs
 
 mul-masks : tie.Need-mul-masks Inv-loop μ-loop
 mul-masks c = search needs
-
-shared-slice-read-masks : tie.Need-shared-slice-read-masks Inv-loop μ-loop
-shared-slice-read-masks c = search needs
-
-mul-masks-2 : tie.Need-mul-masks-2 Inv-loop μ-loop
-mul-masks-2 c = search needs
 
 slice-write-masks : tie.Need-slice-write-masks Inv-loop μ-loop
 slice-write-masks c = search needs
@@ -91,15 +91,15 @@ merge-all-spec =
     Inv-loop
     μ-loop
     loop-holds
+    mul-of-a
+    shared-slice-read-of-a
+    mul-of-b
+    shared-slice-read-of-b
     mul-a
     shared-slice-read-a
-    mul-mask
-    shared-slice-read-mask
     mul-b
     shared-slice-read-b
     mul-masks
-    shared-slice-read-masks
-    mul-masks-2
     slice-write-masks
     replace-bits-requires
     mul-numbers

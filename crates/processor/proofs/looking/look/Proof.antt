@@ -2,9 +2,9 @@
 use borrow.Author.Needs.{needs}
 use mathlib.Core.Path.{sym, ap, _∙_}
 use Rattle.processor.proofs.Stepping.{found-refused, looks-passed}
-use Rattle.processor.proofs.Passing.{passed}
-use Rattle.processor.specs.Gate.{meaningOfGate}
-use Rattle.processor.specs.State.{State, stateOf}
+use Rattle.machine.proofs.Passing.{passed}
+use Rattle.machine.specs.Gate.{meaningOfGate}
+use Rattle.machine.specs.State.{State, stateOf}
 use Rattle.processor.proofs.looking.look.Statement.{statement}
 use Rattle.processor.proofs.looking.look.Tie as tie
 

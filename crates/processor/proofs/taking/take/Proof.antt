@@ -3,9 +3,9 @@ use borrow.Author.Needs.{needs}
 use mathlib.Core.Path.{sym, ap, _∙_}
 use Rattle.processor.proofs.Stepping.{steps-refused, steps-taken}
 use Rattle.processor.proofs.Bridge.{takes-opened}
-use Rattle.processor.proofs.Passing.{gate-passes, passed}
-use Rattle.processor.specs.Gate.{meaningOfGate}
-use Rattle.processor.specs.State.{State, stateOf}
+use Rattle.machine.proofs.Passing.{gate-passes, passed}
+use Rattle.machine.specs.Gate.{meaningOfGate}
+use Rattle.machine.specs.State.{State, stateOf}
 use Rattle.processor.proofs.taking.take.Statement.{statement}
 use Rattle.processor.proofs.taking.take.Tie as tie
 

@@ -10,7 +10,7 @@ use lib.ListN.{length}
 use Rattle.running.proofs.Course.{Course, course-begins, course-goes, course-stops, course-ends}
 use Rattle.running.proofs.Stretched.{course-stretch, takes-course}
 use Rattle.processor.proofs.StepAnswer as Answers
-use Rattle.processor.specs.State.{stateOf}
+use Rattle.machine.specs.State.{stateOf}
 use Rattle.processor.specs.Step.{meaning}
 use Rattle.processor.specs.declared.StepAnswer.the-variants.{Done, Waiting, Refused}
 use Rattle.processor.specs.declared.StepAnswer.{StepAnswer}

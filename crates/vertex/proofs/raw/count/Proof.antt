@@ -1,9 +1,9 @@
 -- The code tests as the definition does.
 use mathlib.Core.Path.{_≡_, sym, ap, _∙_}
 use mathlib.Core.Bool.{true, false}
-use Rattle.layout.specs.declared.Field.{Field}
-use Rattle.layout.specs.Fields.{modeOf, formatOf}
-use Rattle.layout.specs.Sizes.{componentsOf}
+use Rattle.fields.specs.declared.Field.{Field}
+use Rattle.fields.specs.Fields.{modeOf, formatOf}
+use Rattle.fields.specs.Components.{componentsOf}
 use Rattle.vertex.proofs.Lists.{singles-indirect, singles-other, singles-by}
 use borrow.Author.Needs.{needs}
 use Rattle.vertex.proofs.raw.count.Statement.{statement}

@@ -1,0 +1,50 @@
+// What a look, a taking and a run answer, as numbers.
+use processor::StepAnswer;
+use running::Stop;
+ghost use mathlib.Core.Path.{_≡_};
+ghost use Rattle.processor.specs.Step.{meaning};
+ghost use Rattle.running.specs.Run.{meaningOfStop};
+ghost use Rattle.encoding.specs.Told.{firstOf, secondOf, Tells};
+
+// The number of what a look or a taking answers; where there is a unit its words, and where it waits the bytes lacking.
+pub fn tell_answer(answer: StepAnswer, unit: &mut [u32; 6], lacking: &mut u32) -> u32
+    ensures { λ r. ⌜ Tells (meaning answer) (now (unit .entry)) (now (lacking .entry)) r (now (unit .exit)) (now (lacking .exit)) ⌝ }
+{
+    match answer {
+        StepAnswer::Done {
+            command,
+            memory,
+            length,
+        } => {
+            *unit = encoding::unit_words(command, memory, length);
+            0
+        }
+        StepAnswer::Waiting(bytes) => {
+            *lacking = bytes;
+            255
+        }
+        StepAnswer::Refused(reason) => encoding::refused(reason),
+    }
+}
+
+// The number of why a run stopped.
+pub fn stop_number(stop: Stop) -> u32
+    ensures { λ r. ⌜ r ≡ firstOf (meaningOfStop stop) ⌝ }
+{
+    match stop {
+        Stop::Limit => 0,
+        Stop::Waiting(_) => 255,
+        Stop::Refused(reason) => encoding::refused(reason),
+    }
+}
+
+// The bytes lacking, 0 unless a run waits.
+pub fn stop_lacking(stop: Stop) -> u32
+    ensures { λ r. ⌜ r ≡ secondOf (meaningOfStop stop) ⌝ }
+{
+    match stop {
+        Stop::Limit => 0,
+        Stop::Waiting(lacking) => lacking,
+        Stop::Refused(_) => 0,
+    }
+}

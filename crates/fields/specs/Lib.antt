@@ -1,0 +1,4 @@
+pub mod Fields
+pub mod Components
+pub mod Inner
+pub mod Promises
