@@ -306,7 +306,7 @@ uint32_t duckhammock_look(const uint32_t state[DUCKHAMMOCK_STATE_WORDS],
  * unit: of an XF load first the rest of its head of five bytes, then of its words;
  * in an open draw the rest of the vertex. It is at least 1 and never more than the
  * ring's free room (size - 1 - count), so a feed of just that many bytes is
- * accepted. A loader that always feeds so many needs at most three feeds for a
+ * accepted. A loader that always feeds that many needs at most three feeds for a
  * unit: the opcode, an XF load's head, the rest.
  */
 uint32_t duckhammock_take(uint32_t state[DUCKHAMMOCK_STATE_WORDS],
