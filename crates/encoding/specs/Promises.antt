@@ -35,6 +35,6 @@ pub record EncodingPromises : Type 0 where
   pub command-named : (x : Command) (memory : ℕ) → Tellable x → commandNamed (commandWords (numbersOf x) memory) ≡ numbersOf x
   -- so do the first five of the six words of a unit
   pub unit-named : (x : Command) (memory n : ℕ) → Tellable x → commandNamed (take 5 (unitWords (numbersOf x) memory n)) ≡ numbersOf x
-  -- so of every unit that a look tells, at any bytes: the command is among these
+  -- so of every unit that a look tells, at any bytes: its command is `Tellable`
   pub look-named : (b : List ℕ) → Octets b → (n : ℕ) (cp : List ℕ) (draw : Draw) (c : List ℕ) (memory length : ℕ)
       → lookOf b n cp draw ≡ unit c memory length → commandNamed (take 5 (unitWords c memory length)) ≡ c

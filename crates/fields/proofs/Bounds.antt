@@ -8,6 +8,7 @@ use borrow.Author.Tests.{lt-ltb}
 use Rattle.laws.proofs.Cases.{cond-both}
 use Rattle.fields.specs.declared.Descriptor.{Descriptor}
 use Rattle.fields.specs.Fields.{bitsAt, placeIn, modes, modeOf, countOf, formatOf, normalBits, fractionBits, fractionOf, indicesOf}
+use Rattle.fields.specs.Fields.{byteShiftsBit, threeIndicesBit}
 use Rattle.fields.specs.Components.{componentsOf, colourWidth}
 
 -- ---- the fields
@@ -37,15 +38,15 @@ pub fraction-lt : (d : Descriptor) (k : ℕ) → fractionOf d k < 32
 unfolding fractionOf fractionBits
 fraction-lt d k =
     cond-both (λ x. x < 32) (eqb k 10) (λ _. normal-lt (formatOf d k))
-    (λ _. cond-both (λ x. x < 32) (ltb (formatOf d k) 2 && eqb (bitsAt d 94 2) 0) (λ _. lit< tt) (λ _. bits-lt d _ 32 (lit< tt)))
+    (λ _. cond-both (λ x. x < 32) (ltb (formatOf d k) 2 && eqb (bitsAt d byteShiftsBit 2) 0) (λ _. lit< tt) (λ _. bits-lt d _ 32 (lit< tt)))
 
 pub indices-le : (d : Descriptor) (k : ℕ) → indicesOf d k ≤ 3
 unfolding indicesOf
-indices-le d k = cond-both (λ x. x ≤ 3) (eqb k 10 && (eqb (countOf d 10) 1 && eqb (bitsAt d 95 2) 1)) (λ _. lit≤ tt) (λ _. lit≤ tt)
+indices-le d k = cond-both (λ x. x ≤ 3) (eqb k 10 && (eqb (countOf d 10) 1 && eqb (bitsAt d threeIndicesBit 2) 1)) (λ _. lit≤ tt) (λ _. lit≤ tt)
 
 pub indices-some : (d : Descriptor) (k : ℕ) → 1 ≤ indicesOf d k
 unfolding indicesOf
-indices-some d k = cond-both (λ x. 1 ≤ x) (eqb k 10 && (eqb (countOf d 10) 1 && eqb (bitsAt d 95 2) 1)) (λ _. lit≤ tt) (λ _. lit≤ tt)
+indices-some d k = cond-both (λ x. 1 ≤ x) (eqb k 10 && (eqb (countOf d 10) 1 && eqb (bitsAt d threeIndicesBit 2) 1)) (λ _. lit≤ tt) (λ _. lit≤ tt)
 
 -- ---- the largest sizes
 pub colour-le : (f : ℕ) → colourWidth f ≤ 4

@@ -12,7 +12,7 @@ use borrow.Author.Tests.{lt-ltb, le-ltb, leb-true}
 use Rattle.laws.proofs.Cases.{is-true, order}
 use Rattle.laws.proofs.Table.{every, at, both, both-left, both-right}
 use Rattle.fields.specs.declared.Descriptor.{Descriptor}
-use Rattle.fields.specs.Fields.{bitsAt, none, placeIn, modes, counts, formats, shifts}
+use Rattle.fields.specs.Fields.{bitsAt, none, placeIn, modes, counts, formats, shifts, byteShiftsBit, threeIndicesBit}
 use Rattle.fields.specs.Fields.{modeOf, countOf, formatOf, fractionOf, indicesOf, Alike}
 use Rattle.fields.specs.Promises.{FieldPromises}
 
@@ -99,11 +99,11 @@ module _ (d e : Descriptor) (a : Alike d e) where
 
   pub fraction-alike : (k : ℕ) → fractionOf d k ≡ fractionOf e k
   unfolding fractionOf shifts
-  fraction-alike k = rw (format-alike k, vat 94 2 (lit≤ tt), vat-in shifts 32 tt k)
+  fraction-alike k = rw (format-alike k, vat byteShiftsBit 2 (lit≤ tt), vat-in shifts 32 tt k)
 
   pub indices-alike : (k : ℕ) → indicesOf d k ≡ indicesOf e k
   unfolding indicesOf
-  indices-alike k = rw (count-alike 10, vat 95 2 (lit≤ tt))
+  indices-alike k = rw (count-alike 10, vat threeIndicesBit 2 (lit≤ tt))
 
 pub field-promises : FieldPromises
 field-promises =

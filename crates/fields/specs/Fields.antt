@@ -70,13 +70,20 @@ normalBits (suc (suc (suc (suc n)))) = 0
 unfoldable pub fractionBits : ℕ → ℕ → ℕ → ℕ → ℕ
 fractionBits k format bit30 shift = cond (eqb k 10) (normalBits format) (cond (ltb format 2 && eqb bit30 0) 0 shift)
 
+-- where VAT group 0 has bit 30, by which 8-bit components have shifts, and bit 31, by which an indexed normal of nine has three indices
+abbrev pub byteShiftsBit : ℕ
+byteShiftsBit = 64 + 30
+
+abbrev pub threeIndicesBit : ℕ
+threeIndicesBit = 64 + 31
+
 -- the fraction bits of attribute k's components
 unfoldable pub fractionOf : Descriptor → ℕ → ℕ
-fractionOf d k = fractionBits k (formatOf d k) (bitsAt d (64 + 30) 2) (bitsAt d (placeIn shifts k) 32)
+fractionOf d k = fractionBits k (formatOf d k) (bitsAt d byteShiftsBit 2) (bitsAt d (placeIn shifts k) 32)
 
 -- "An indexed normal has three indices exactly if both its count bit and group 0 bit 31 are set"
 unfoldable pub indicesOf : Descriptor → ℕ → ℕ
-indicesOf d k = cond (eqb k 10 && (eqb (countOf d 10) 1 && eqb (bitsAt d (64 + 31) 2) 1)) 3 1
+indicesOf d k = cond (eqb k 10 && (eqb (countOf d 10) 1 && eqb (bitsAt d threeIndicesBit 2) 1)) 3 1
 
 -- all of it
 abbrev pub fieldOf : Descriptor → ℕ → Field

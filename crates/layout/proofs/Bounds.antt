@@ -12,7 +12,7 @@ use Rattle.component.proofs.Widths.{width-le, width-some}
 use Rattle.laws.proofs.Table.{at}
 use Rattle.laws.proofs.Cases.{cond-both, and-left}
 use Rattle.fields.specs.declared.Descriptor.{Descriptor}
-use Rattle.fields.specs.Fields.{bitsAt, modeOf, countOf, formatOf, indicesOf}
+use Rattle.fields.specs.Fields.{bitsAt, modeOf, countOf, formatOf, indicesOf, threeIndicesBit}
 use Rattle.fields.specs.Components.{isColour, componentsOf, colourWidth}
 use Rattle.fields.proofs.Bounds.{mode-le, mode-matrix, indices-some, colour-le, components-le, components-some, components-nine}
 use Rattle.layout.specs.Sizes.{directOf, modeSize, sizeOf, offsetOf}
@@ -45,7 +45,7 @@ high-four k = go (isColour k) (eqb k 9) (eqb k 10)
 indexed-le : (d : Descriptor) (k m : ℕ) → m ≤ 2 → indicesOf d k * m ≤ high k
 unfolding indicesOf
 indexed-le d k m h =
-    cond-both (λ x. x * m ≤ high k) (eqb k 10 && (eqb (countOf d 10) 1 && eqb (bitsAt d 95 2) 1))
+    cond-both (λ x. x * m ≤ high k) (eqb k 10 && (eqb (countOf d 10) 1 && eqb (bitsAt d threeIndicesBit 2) 1))
     (λ e. subst (λ (x : ℕ). 3 * m ≤ high x) (sym (eqb-true k 10 (and-left (eqb k 10) _ e))) (omega arith))
     (λ _. omega (arith, high-four k))
 

@@ -71,7 +71,7 @@ gateBy f cp bp draw ring xf buffer =
     2)
     1
 
--- the same of a state with a ring of so many bytes
+-- the same of a state with a ring of that many bytes
 abbrev pub gateOf : State → ℕ → ℕ
 gateOf s ring = gateBy (s .fifo) (s .cp) (s .bp) (s .draw) ring (length (s .xf)) (length (s .buffer))
 

@@ -28,6 +28,6 @@ pub record PatchPromises : Type 0 where
   -- "number r inside"
   pub inside : (bp : List ℕ) (p : Patch) (r : ℕ) → r < bpCount → (k : ℕ) → k < 24 → bit k (maskAt p r) ≡ true
       → bit k (getD (appliedTo bp p) r 0) ≡ bit k (numberAt p r)
-  -- "Compared are all 256 BP registers", of 24 bits: there are as many after it as before, none has a bit from 24 on, and FE is FFFFFF
-  -- again
+  -- "Compared are all 256 BP registers", of 24 bits: there are as many after it as before, none has a bit from 24 on, and FE is still
+  -- FFFFFF
   pub stays-open : (bp : List ℕ) (p : Patch) → IsAccepted p → Open bp → Open (appliedTo bp p)

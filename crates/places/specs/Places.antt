@@ -45,7 +45,7 @@ pub data ArrayUse : Type 0 where
   indexedLoad : ℕ → ArrayUse
 
 -- "Arrays by attribute: 0 position, 1 normal, 2 and 3 colours, 4 to 11 textures, 12 to 15 the indexed loads". Nothing is fetched, so that
--- of all arrays only those of the indexed loads show, in the command and the address that are reported (`indexedArray`)
+-- of all arrays only those of the indexed loads show, in the command and the address that are reported (command/Look `indexedArray`)
 abbrev pub arrayOf : ArrayUse → ℕ
 arrayOf (attribute k) = k - 9
 arrayOf (indexedLoad k) = 12 + k

@@ -136,7 +136,10 @@ fn write_left(left: Left) {
     line::put_hex(b", BC ", left.cp[56]);
     line::put_hex(b", bp 41 ", left.bp[0x41]);
     line::put_hex(b", FE ", left.bp[0xFE]);
-    line::put_hex(b", xf 1003 ", left.xf[0x1003]);
+    line::put_hex(b", xf 1000 ", left.xf[0x1000]);
+    line::put_hex(b", 1001 ", left.xf[0x1001]);
+    line::put_hex(b", 1002 ", left.xf[0x1002]);
+    line::put_hex(b", 1003 ", left.xf[0x1003]);
     line::put_hex(b", 1004 ", left.xf[0x1004]);
     line::write_hex(b", 1057 ", left.xf[0x1057]);
 }
