@@ -42,11 +42,13 @@ fraction-lt d k =
 
 pub indices-le : (d : Descriptor) (k : ℕ) → indicesOf d k ≤ 3
 unfolding indicesOf
-indices-le d k = cond-both (λ x. x ≤ 3) (eqb k 10 && (eqb (countOf d 10) 1 && eqb (bitsAt d threeIndicesBit 2) 1)) (λ _. lit≤ tt) (λ _. lit≤ tt)
+indices-le d k =
+    cond-both (λ x. x ≤ 3) (eqb k 10 && (eqb (countOf d 10) 1 && eqb (bitsAt d threeIndicesBit 2) 1)) (λ _. lit≤ tt) (λ _. lit≤ tt)
 
 pub indices-some : (d : Descriptor) (k : ℕ) → 1 ≤ indicesOf d k
 unfolding indicesOf
-indices-some d k = cond-both (λ x. 1 ≤ x) (eqb k 10 && (eqb (countOf d 10) 1 && eqb (bitsAt d threeIndicesBit 2) 1)) (λ _. lit≤ tt) (λ _. lit≤ tt)
+indices-some d k =
+    cond-both (λ x. 1 ≤ x) (eqb k 10 && (eqb (countOf d 10) 1 && eqb (bitsAt d threeIndicesBit 2) 1)) (λ _. lit≤ tt) (λ _. lit≤ tt)
 
 -- ---- the largest sizes
 pub colour-le : (f : ℕ) → colourWidth f ≤ 4
