@@ -4,7 +4,7 @@ use mathlib.Core.Bool.{true}
 use mathlib.Core.List.{List, _∷_, _++_, map}
 use Prim.Native.Nat.{ℕ, _+_, _-_, _*_, _<_, _≤_}
 use lib.ListN.{length, take, drop}
-use Rattle.octets.specs.BigEndian.{Octets}
+use Rattle.octets.specs.BigEndian.{Octets, WordsFit}
 use Rattle.layout.specs.Answers.{refusalOf}
 use Rattle.command.specs.declared.Command.{Command}
 use Rattle.command.specs.declared.Command.the-variants.{LoadXf}
@@ -15,7 +15,7 @@ use Rattle.command.specs.Prefix.{Settled}
 use Rattle.writer.specs.Write.{wordsOf, commandBytes}
 use Rattle.writer.specs.Write as Write
 use Rattle.writer.specs.Widths.{Typed, reported}
-use Rattle.writer.specs.Back.{Writable, WordsFit}
+use Rattle.writer.specs.Back.{Writable}
 use Rattle.writer.specs.Again.{lowered}
 use Rattle.fifo.specs.Window.{Ready, sizeOf}
 use Rattle.queue.specs.Feeding.{accepted}

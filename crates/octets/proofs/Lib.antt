@@ -1,3 +1,5 @@
 pub mod Number
 pub mod Written
 pub mod AtMostFour
+pub mod Words
+pub mod WordsBack

@@ -2,7 +2,7 @@
 ghost use mathlib.Core.Path.{_≡_};
 ghost use Prim.Native.Nat.{_+_, _*_, _<_};
 ghost use lib.ListN.{getD};
-ghost use Rattle.octets.specs.BigEndian.{bigEndian, atMostFour};
+ghost use Rattle.octets.specs.BigEndian.{bigEndian, atMostFour, withWords};
 
 // The byte at a place, 0 past the end.
 pub fn byte(bytes: &[u8], at: usize) -> u8
@@ -74,5 +74,24 @@ pub fn read(bytes: &[u8], at: u32, n: u32) -> u32
         2 => half_at(bytes, at) as u32,
         3 => half_at(bytes, at) as u32 * 256 + wide(byte(bytes, place + 2)),
         _ => word_at(bytes, at),
+    }
+}
+
+// Writes words to the front of an output that has room for all of them; else nothing.
+pub fn write_words(words: &[u32], out: &mut [u8])
+    ensures { λ _. ⌜ now (out .exit) ≡ withWords (now (words .entry)) (now (out .entry)) ⌝ }
+{
+    if out.len() / 4 < words.len() {
+        return;
+    }
+    let mut i: usize = 0;
+    while i < words.len() {
+        let w = words[i];
+        let p = 4 * i;
+        out[p] = (w / 256 / 256 / 256 % 256) as u8;
+        out[p + 1] = (w / 256 / 256 % 256) as u8;
+        out[p + 2] = (w / 256 % 256) as u8;
+        out[p + 3] = (w % 256) as u8;
+        i += 1;
     }
 }

@@ -11,6 +11,7 @@ use Rattle.refusal.specs.declared.Reason.the-variants.{LinkedMode, Unkno
 use Rattle.refusal.specs.declared.Reason.the-variants.{PositionAbsent, UnknownFormat, FeedTooLong, PatchLength}
 use Rattle.refusal.specs.declared.Reason.the-variants.{PatchOfMaskRegister, PatchMaskTooWide, PatchNumberOutsideMask, OutputShort}
 use Rattle.refusal.specs.declared.Reason.the-variants.{UnknownOffset, UnwritableCommand, NotOfLayout}
+use Rattle.refusal.specs.declared.Reason.the-variants.{WrongCount, NumberTooWide, FileShort, FileLong}
 
 -- every reason, in any order
 reasons : List Reason
@@ -34,6 +35,10 @@ reasons =
     ∷ UnknownOffset
     ∷ UnwritableCommand
     ∷ NotOfLayout
+    ∷ WrongCount
+    ∷ NumberTooWide
+    ∷ FileShort
+    ∷ FileLong
     ∷ []
 
 -- the first reason of a list with a number, and the table's first where none has it
@@ -66,6 +71,10 @@ found OutputShort = refl
 found UnknownOffset = refl
 found UnwritableCommand = refl
 found NotOfLayout = refl
+found WrongCount = refl
+found NumberTooWide = refl
+found FileShort = refl
+found FileLong = refl
 
 pub number-injective : (a b : Reason) → number a ≡ number b → a ≡ b
 number-injective a b e = sym (found a) ∙ ap reasonOf e ∙ found b

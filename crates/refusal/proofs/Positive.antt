@@ -8,6 +8,7 @@ use Rattle.refusal.specs.declared.Reason.the-variants.{UnknownOpcode, Un
 use Rattle.refusal.specs.declared.Reason.the-variants.{UnknownFormat, FeedTooLong, PatchLength, PatchOfMaskRegister}
 use Rattle.refusal.specs.declared.Reason.the-variants.{PatchMaskTooWide, PatchNumberOutsideMask, OutputShort, UnknownOffset}
 use Rattle.refusal.specs.declared.Reason.the-variants.{UnwritableCommand, NotOfLayout}
+use Rattle.refusal.specs.declared.Reason.the-variants.{WrongCount, NumberTooWide, FileShort, FileLong}
 
 pub number-some : (r : Reason) → 1 ≤ number r
 number-some InvalidState = lit≤ tt
@@ -29,3 +30,7 @@ number-some OutputShort = lit≤ tt
 number-some UnknownOffset = lit≤ tt
 number-some UnwritableCommand = lit≤ tt
 number-some NotOfLayout = lit≤ tt
+number-some WrongCount = lit≤ tt
+number-some NumberTooWide = lit≤ tt
+number-some FileShort = lit≤ tt
+number-some FileLong = lit≤ tt

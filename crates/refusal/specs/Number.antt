@@ -1,4 +1,5 @@
--- "A refusal carries its number from document 01": the table "Numbers a caller may get", a line for each case.
+-- "A refusal carries its number from document 01": the table "Numbers a caller may get", a line for each case, and document 02's: "New
+-- refusals from here on join document 01's."
 use Prim.Native.Nat.{ℕ}
 use Rattle.refusal.specs.declared.Reason.{Reason}
 use Rattle.refusal.specs.declared.Reason.the-variants.{InvalidState, XfMemoryLength, VertexBufferShort, ReadDisabled}
@@ -6,6 +7,7 @@ use Rattle.refusal.specs.declared.Reason.the-variants.{LinkedMode, Unkno
 use Rattle.refusal.specs.declared.Reason.the-variants.{PositionAbsent, UnknownFormat, FeedTooLong, PatchLength}
 use Rattle.refusal.specs.declared.Reason.the-variants.{PatchOfMaskRegister, PatchMaskTooWide, PatchNumberOutsideMask, OutputShort}
 use Rattle.refusal.specs.declared.Reason.the-variants.{UnknownOffset, UnwritableCommand, NotOfLayout}
+use Rattle.refusal.specs.declared.Reason.the-variants.{WrongCount, NumberTooWide, FileShort, FileLong}
 
 -- the number of a refusal
 abbrev pub number : Reason → ℕ
@@ -28,3 +30,7 @@ number OutputShort = 16
 number UnknownOffset = 17
 number UnwritableCommand = 18
 number NotOfLayout = 19
+number WrongCount = 20
+number NumberTooWide = 21
+number FileShort = 22
+number FileLong = 23

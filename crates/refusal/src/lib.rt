@@ -1,4 +1,5 @@
-// Why a call or a unit of the stream is refused: one case for each number of document 01's table, named by what is wrong.
+// Why a call or a unit of the stream is refused: one case for each number of document 01's table and of document 02's, named by what is
+// wrong.
 // A patch is document 01's correction sheet.
 ghost use mathlib.Core.Path.{_≡_};
 ghost use Rattle.refusal.specs.Number.{number};
@@ -42,9 +43,17 @@ pub enum Reason {
     UnwritableCommand,
     // 19: the attribute number is above 20, or the vertex has not the layout's length.
     NotOfLayout,
+    // 20: a count of a recording is wrong, or its stream is too long.
+    WrongCount,
+    // 21: a number of a recording is too wide for its register.
+    NumberTooWide,
+    // 22: a recording is cut short, or cut inside a number.
+    FileShort,
+    // 23: a recording has bytes after its stream.
+    FileLong,
 }
 
-// The reason's number in document 01.
+// The reason's number in documents 01 and 02.
 pub fn number(reason: Reason) -> u8
     ensures { λ r. ⌜ r ≡ number reason ⌝ }
 {
@@ -68,5 +77,9 @@ pub fn number(reason: Reason) -> u8
         Reason::UnknownOffset => 17,
         Reason::UnwritableCommand => 18,
         Reason::NotOfLayout => 19,
+        Reason::WrongCount => 20,
+        Reason::NumberTooWide => 21,
+        Reason::FileShort => 22,
+        Reason::FileLong => 23,
     }
 }

@@ -9,7 +9,8 @@ use lib.Dec.{eqb}
 use lib.ListN.{length, getD, take, drop, length-drop, take-append-drop}
 use borrow.Author.Tests.{le-leb}
 use lib.Seq.{take-take, take-all, drop-cons, take-add, drop-drop, drop-set-add, take-suc-set}
-use Rattle.octets.specs.BigEndian.{bigEndian, bytesOf}
+use Rattle.octets.specs.BigEndian.{bigEndian, bytesOf, wordsAt}
+use Rattle.laws.specs.Values.{upTo}
 use Rattle.octets.proofs.Number.{Octets, big-lt, two-bytes}
 use Rattle.octets.proofs.Written.{write-back}
 use Rattle.command.specs.Command.{loadCp, loadXf, loadIndexed, callList, loadBp, drawHead}
@@ -18,10 +19,10 @@ use Rattle.effect.specs.Effect.{storedXf, loadedXf, xfAfter}
 use Rattle.effect.proofs.Lengths.{length-stored}
 use Rattle.writer.specs.Write.{lengthField, headOf, wordsOf, wordBytes, commandBytes}
 use Rattle.writer.specs.Again.{lowered, heldWords}
-use Rattle.writer.proofs.Words.{words-append, words-one}
+use Rattle.octets.proofs.WordsBack.{words-back}
 
 -- a load of one word more adds that word
-pub stored-next : (xf u : List ℕ) (a n : ℕ) → a + suc n ≤ length xf
+stored-next : (xf u : List ℕ) (a n : ℕ) → a + suc n ≤ length xf
     → take (suc n) (drop a (storedXf xf u a (suc n))) ≡ take n (drop a (storedXf xf u a n)) ++ (bigEndian u (5 + 4 * n) 4 ∷ [])
 unfolding storedXf
 stored-next xf u a n h =
@@ -30,19 +31,17 @@ stored-next xf u a n h =
     let short : n < length (drop a x) = rw length-drop (omega arith) in
     ap (λ (y : List ℕ). take (suc n) y) (drop-set-add a x n (bigEndian u (5 + 4 * n) 4)) ∙ take-suc-set (drop a x) n _ short
 
--- the words that a load stored, written again, are its bytes
+-- the words that a load stores are those of its unit
+pub stored-words : (xf u : List ℕ) (a n : ℕ) → a + n ≤ length xf → take n (drop a (storedXf xf u a n)) ≡ wordsAt u 5 n
+unfolding upTo
+stored-words xf u a zero h = refl
+stored-words xf u a (suc n) h =
+    stored-next xf u a n h ∙ ap (λ (l : List ℕ). l ++ (bigEndian u (5 + 4 * n) 4 ∷ [])) (stored-words xf u a n (omega arith))
+
+-- and written again they are its bytes
 words-again : (xf u : List ℕ) → Octets u → (a n : ℕ) → a + n ≤ length xf → 5 + 4 * n ≤ length u
     → wordBytes (take n (drop a (storedXf xf u a n))) ≡ take (4 * n) (drop 5 u)
-unfolding wordBytes
-words-again xf u o a zero h k = refl
-words-again xf u o a (suc n) h k =
-    let x : List ℕ = storedXf xf u a n in
-    let v : ℕ = bigEndian u (5 + 4 * n) 4 in
-    let w : bytesOf 4 v ≡ take 4 (drop (5 + 4 * n) u) = write-back u (5 + 4 * n) 4 o (omega arith) in
-    let f : 4 * suc n ≡ 4 * n + 4 = omega arith in
-    ap wordBytes (stored-next xf u a n h)
-    ∙ words-append (take n (drop a x)) (v ∷ [])
-    ∙ rw (words-one v, words-again xf u o a n (omega arith) (omega arith), w, f, take-add (4 * n) 4 (drop 5 u), drop-drop (4 * n) 5 u)
+words-again xf u o a n h k = ap wordBytes (stored-words xf u a n h) ∙ words-back u 5 n o k
 
 -- ---- a list as its pieces
 piece : (l : List ℕ) (k : ℕ) → k < length l → getD l k 0 ∷ [] ≡ take 1 (drop k l)

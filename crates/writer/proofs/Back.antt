@@ -21,7 +21,7 @@ use Rattle.writer.specs.Write.{headOf, wordsOf, wordBytes, commandBytes}
 use Rattle.writable.specs.Writable.{unwritable, unaddressed, pastEnd}
 use Rattle.writer.specs.Widths.{Typed, reported}
 pub use Rattle.writer.specs.Back.{LooksBack}
-use Rattle.writer.proofs.Words.{length-words}
+use Rattle.octets.proofs.Words.{length-words}
 use Rattle.writer.proofs.RoundTrip.{there, opened, cp-back, xf-back, indexed-back, call-back, bp-back, head-back}
 
 module _ (words rest cp : List ℕ) where

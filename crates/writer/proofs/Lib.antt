@@ -1,5 +1,4 @@
 pub mod Meanings
-pub mod Words
 pub mod Outcomes
 pub mod RoundTrip
 pub mod Back

@@ -19,7 +19,7 @@ use Rattle.writer.specs.Write.{headOf, wordsOf, wordBytes, commandBytes}
 use Rattle.writable.specs.Writable.{unwritable, unaddressed}
 use Rattle.writable.specs.Writable.{pastEnd}
 use Rattle.writer.specs.Write.{refusalOf, placed, headThenWords, Writes}
-use Rattle.writer.proofs.Words.{length-words}
+use Rattle.octets.proofs.Words.{length-words}
 
 -- a writable command is lent the words that it names
 words-by : (k f lent : ℕ) (t : Bool) → eqb k 0x10 ≡ t → (b : Bool)

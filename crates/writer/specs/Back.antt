@@ -2,8 +2,8 @@
 use mathlib.Core.Path.{_≡_}
 use mathlib.Core.Bool.{false}
 use mathlib.Core.List.{List, _++_}
-use Prim.Native.Nat.{ℕ, _^_, _<_}
-use lib.ListN.{length, getD}
+use Prim.Native.Nat.{ℕ}
+use lib.ListN.{length}
 use Rattle.command.specs.declared.Command.{Command}
 use Rattle.command.specs.declared.Draw.the-variants.{Closed}
 use Rattle.command.specs.Command.{unit, numbersOf}
@@ -18,10 +18,6 @@ pub record Writable (c words : List ℕ) : Type 0 where
   pub writable : unwritable c (length words) ≡ false
   pub addressed : unaddressed c ≡ false
   pub within : pastEnd c ≡ false
-
--- words of 32 bits, as lent ones are
-abbrev pub WordsFit : List ℕ → Type 0
-WordsFit words = (k : ℕ) → getD words k 0 < 2 ^ 32
 
 -- a look at what is written for a command, with anything after it, is a unit of that command and of just those bytes
 abbrev pub LooksBack : Command → List ℕ → List ℕ → List ℕ → Type 0

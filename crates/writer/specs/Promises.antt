@@ -3,14 +3,14 @@ use mathlib.Core.Path.{_≡_}
 use mathlib.Core.List.{List}
 use Prim.Native.Nat.{ℕ}
 use lib.ListN.{length, take}
-use Rattle.octets.specs.BigEndian.{Octets}
+use Rattle.octets.specs.BigEndian.{Octets, WordsFit}
 use Rattle.layout.specs.Answers.{refusalOf}
 use Rattle.command.specs.declared.Command.{Command}
 use Rattle.command.specs.declared.Draw.the-variants.{Closed}
 use Rattle.command.specs.Command.{unit, kindOf, fieldOf, numbersOf, loadXf}
 use Rattle.command.specs.Look.{xfCount, descriptorOf, lookOf}
 use Rattle.writer.specs.Widths.{Typed}
-use Rattle.writer.specs.Back.{Writable, WordsFit, LooksBack, LoadsBack}
+use Rattle.writer.specs.Back.{Writable, LooksBack, LoadsBack}
 use Rattle.writer.specs.Again.{Rewrites}
 
 pub record WriterPromises : Type 0 where

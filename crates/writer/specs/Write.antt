@@ -7,6 +7,7 @@ use Prim.Native.Nat.{ℕ, _+_, _*_, _%_}
 use lib.Dec.{ltb, eqb}
 use lib.ListN.{length, take, drop}
 use Rattle.octets.specs.BigEndian.{bytesOf}
+unfoldable pub use Rattle.octets.specs.BigEndian.{wordBytes}
 use Rattle.refusal.specs.Number.{number}
 use Rattle.command.specs.Command.{kindOf, fieldOf}
 use Rattle.writable.specs.Writable.{unwritable, unaddressed, pastEnd}
@@ -35,11 +36,6 @@ headOf c =
 -- the words that an XF load names; other commands name none
 unfoldable pub wordsOf : List ℕ → ℕ
 wordsOf c = cond (eqb (kindOf c) 0x10) (fieldOf c 1) 0
-
--- words as they stand in the stream
-unfoldable pub wordBytes : List ℕ → List ℕ
-wordBytes [] = []
-wordBytes (w ∷ ws) = bytesOf 4 w ++ wordBytes ws
 
 -- the bytes of a command with its lent words
 unfoldable pub commandBytes : List ℕ → List ℕ → List ℕ

@@ -4,11 +4,10 @@ mod heads;
 use command::Command;
 use refusal::Reason;
 ghost use mathlib.Core.Path.{_≡_};
-ghost use mathlib.Core.List.{_++_};
 ghost use Prim.Native.Nat.{_+_, _*_, _≤_};
-ghost use lib.ListN.{length, take, drop};
+ghost use lib.ListN.{length, take};
 ghost use Rattle.command.specs.Command.{numbersOf};
-ghost use Rattle.writer.specs.Write.{wordBytes, wordsOf, headThenWords, Writes};
+ghost use Rattle.writer.specs.Write.{wordsOf, headThenWords, Writes};
 
 pub enum Written {
     // So many bytes.
@@ -26,31 +25,13 @@ fn words_named(command: Command) -> usize
     0
 }
 
-// The first n words, from a place of the output on.
-fn put_words(out: &mut [u8], at: usize, words: &[u32], n: usize)
-    requires { ⌜ (n ≤ length (now words)) × ((at + 4 * n ≤ length (now out)) × (n ≤ 255)) ⌝ }
-    ensures { λ _. ⌜ now (out .exit)
-        ≡ take at (now (out .entry)) ++ (wordBytes (take n (now (words .entry))) ++ drop (at + 4 * n) (now (out .entry))) ⌝ }
-{
-    let mut i: usize = 0;
-    while i < n {
-        let w = words[i];
-        let p = at + 4 * i;
-        out[p] = (w / 256 / 256 / 256 % 256) as u8;
-        out[p + 1] = (w / 256 / 256 % 256) as u8;
-        out[p + 2] = (w / 256 % 256) as u8;
-        out[p + 3] = (w % 256) as u8;
-        i += 1;
-    }
-}
-
 // The first bytes of a head, then the first n words.
 fn put(out: &mut [u8], bytes: [u8; 9], at: usize, words: &[u32], n: usize)
     requires { ⌜ (at ≤ 9) × ((n ≤ length (now words)) × ((at + 4 * n ≤ length (now out)) × (n ≤ 255))) ⌝ }
     ensures { λ _. ⌜ now (out .exit) ≡ headThenWords (take at bytes) at (now (words .entry)) n (now (out .entry)) ⌝ }
 {
     bytes::copy(&bytes[..at], out);
-    put_words(out, at, words, n);
+    octets::write_words(&words[..n], &mut out[at..]);
 }
 
 // Writes one command to the front of the output, an XF load with its lent words.

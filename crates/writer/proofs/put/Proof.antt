@@ -1,23 +1,39 @@
--- `writer::put` meets its contract: the head is copied to the front, and the words after it.
+-- `writer::put` meets its contract: the head is copied to the front, and the words go into what is left.
 use borrow.Author.Needs.{needs}
+use borrow.Author.Tests.{le-leb}
+use borrow.Rule.Slice.PartMut.{putMid}
 use mathlib.Core.Path.{_≡_, sym, ap, _∙_}
 use mathlib.Core.List.{List, _++_}
-use Prim.Native.Nat.{ℕ, _≤_}
+use Prim.Native.Nat.{ℕ, _+_, _-_, _*_, _≤_}
 use native.Mathlib.Omega.{arith}
-use lib.ListN.{length, take, drop}
-use lib.Seq.{length-take-le, take-length}
-use Prim.Native.Nat.{_+_, _*_}
-use Rattle.writer.specs.Write.{wordBytes}
+use lib.ListN.{length, take, drop, length-drop}
+use lib.Seq.{length-take-le, take-length, drop-drop}
+use Rattle.laws.proofs.Pieces.{lent-rest}
+use Rattle.octets.specs.BigEndian.{wordBytes, withWords}
+use Rattle.octets.proofs.Words.{length-words}
 use Rattle.writer.proofs.put.Statement.{statement}
 use Rattle.writer.proofs.put.Tie as tie
 
--- the bytes copied are as many as were asked for
-many : (at : ℕ) (bytes : List ℕ) → at ≤ length bytes → at ≡ length (take at bytes)
-many at bytes h = sym (length-take-le at bytes h)
+-- the bytes copied are as many as were asked for, and so are the words
+many : (n : ℕ) (l : List ℕ) → n ≤ length l → n ≡ length (take n l)
+many n l h = sym (length-take-le n l h)
 
 -- a copy of exactly those
 copied : (at : ℕ) (head out o : List ℕ) → at ≡ length head → o ≡ take (length head) head ++ drop (length head) out → o ≡ head ++ drop at out
 copied at head out o e h = h ∙ rw (take-length head, e)
+
+-- n words over what is left of the output from a place on
+lent : (at n : ℕ) (ws out v : List ℕ) → n ≡ length ws → at + 4 * n ≤ length out → v ≡ withWords ws (take (length out - at) (drop at out))
+    → putMid at (length out - at) out v ≡ take at out ++ (wordBytes ws ++ drop (at + 4 * n) out)
+lent at n ws out v e h q =
+    let part : List ℕ = take (length out - at) (drop at out) in
+    let l : length part ≡ length out - at = length-take-le (length out - at) (drop at out) (rw length-drop (omega arith)) in
+    let w : length (wordBytes ws) ≡ 4 * length ws = length-words ws in
+    let b : v ≡ wordBytes ws ++ drop (length (wordBytes ws)) part =
+    q ∙ rw (le-leb (4 * length ws) (length part) (omega arith), w) in
+    let d : drop (length (wordBytes ws)) (drop at out) ≡ drop (at + 4 * n) out =
+    rw (w, e) (drop-drop (4 * length ws) at out) in
+    lent-rest out (wordBytes ws) v at b ∙ ap (λ (x : List ℕ). take at out ++ (wordBytes ws ++ x)) d
 
 array-share-prefix-bytes : tie.Need-array-share-prefix-bytes
 array-share-prefix-bytes c = search needs
@@ -30,23 +46,37 @@ copy-requires c κs =
     let a = c .before .before .before .before .args in
     omega (arith, many (a .at) (a .t2) (search needs))
 
-put-words-requires : tie.Need-put-words-requires
-put-words-requires c κs = search needs
+slice-aggregate-write-words : tie.Need-slice-aggregate-write-words
+slice-aggregate-write-words c = many _ _ (search needs)
+
+sub-write-words : tie.Need-sub-write-words
+sub-write-words c = search needs
+
+part-write-words-start : tie.Need-part-write-words-start
+part-write-words-start c = search needs
+
+part-write-words-end : tie.Need-part-write-words-end
+part-write-words-end c = search needs
+
+write-words-requires : tie.Need-write-words-requires
+write-words-requires c κs = search needs
 
 same-length : tie.Need-same-length
 same-length c = search needs
 
 returns : tie.Need-returns
 returns c =
-    let p = c .before .before in
-    let k = p .before .before .before .before in
-    let a = c .before .before .before .before .before .before .before .before .before .before .before .args in
+    let w = c .before .before in
+    let k = c .before .before .before .before .before .before .before in
+    let a = k .before .before .before .before .before .args in
     let head = take (a .at) (a .t2) in
+    let words = take (a .n) (a .words .now) in
     let l : a .at ≡ length head = many (a .at) (a .t2) (search needs) in
     let o : k .copy .last .1 .0 ≡ head ++ drop (a .at) (a .out .now) = copied (a .at) head (a .out .now) _ l (k .copy .ensures .1) in
-    let after : List ℕ → List ℕ = λ x. take (a .at) x ++ (wordBytes (take (a .n) (a .words .now)) ++ drop (a .at + 4 * a .n) x) in
-    let w : p .put-words .last .0 ≡ after (k .copy .last .1 .0) = p .put-words .ensures in
-    w ∙ ap after o
+    let after : List ℕ → List ℕ = λ x. take (a .at) x ++ (wordBytes words ++ drop (a .at + 4 * a .n) x) in
+    lent (a .at) (a .n) words (k .copy .last .1 .0) (w .write-words .last .1 .0) (many (a .n) (a .words .now) (search needs)) (search needs)
+    (w .write-words .ensures)
+    ∙ ap after o
 
 pub put-spec : {M : Type 1} → statement M
 put-spec =
@@ -55,6 +85,10 @@ put-spec =
     array-share-prefix-bytes
     slice-aggregate-copy
     copy-requires
-    put-words-requires
+    slice-aggregate-write-words
+    sub-write-words
+    part-write-words-start
+    part-write-words-end
+    write-words-requires
     same-length
     returns)

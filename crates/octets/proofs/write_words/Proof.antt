@@ -1,27 +1,27 @@
--- `writer::put_words` meets its contract: after i turns the first i words stand there.
+-- `octets::write_words` meets its contract: after i turns the first i words stand at the front.
+use borrow.Author.Needs.{needs}
 use mathlib.Core.Path.{_≡_, refl, ap, _∙_}
 use mathlib.Core.List.{List}
 use Prim.Native.Nat.{ℕ, _+_, _-_, _*_, _≤_}
 use native.Mathlib.Omega.{arith}
-use lib.ListN.{length, length-set}
-use borrow.Author.Needs.{needs}
-use lib.ListN.{getD}
+use lib.ListN.{length, getD, length-set}
 use lib.Seq.{sets}
 use Rattle.octets.specs.BigEndian.{bytesOf}
-use Rattle.writer.proofs.Words.{state, state-none, state-next, four-stores}
-use Rattle.writer.proofs.put_words.Statement.{statement}
-use Rattle.writer.proofs.put_words.Tie as tie
+use Rattle.octets.proofs.Words.{state, state-none, state-next, words-short, words-whole, four-stores}
+use Rattle.octets.proofs.write_words.Statement.{statement}
+use Rattle.octets.proofs.write_words.Tie as tie
 
 abbrev Inv-loop : tie.InvT-loop
-Inv-loop out₀ at words n i₀ out i = (i ≤ n) × ((length out ≡ length out₀) × (out ≡ state out₀ at words i))
+Inv-loop words out₀ i₀ out i = (i ≤ length words) × ((length out ≡ length out₀) × (out ≡ state out₀ words i))
 
 abbrev μ-loop : tie.MeasureT-loop
-μ-loop out₀ at words n i₀ out i = n - i
+μ-loop words out₀ i₀ out i = length words - i
+
+returns : tie.Need-returns Inv-loop μ-loop
+returns c = let a = c .before .args in words-short (a .words .now) (a .out .now) (c .if1 .taken)
 
 loop-holds : tie.Need-loop-holds Inv-loop μ-loop
-loop-holds c =
-    let a = c .args in
-    (omega arith, (refl, state-none (a .out .now) (a .at) (a .words .now)))
+loop-holds c = let a = c .before .args in (omega arith, (refl, state-none (a .out .now) (a .words .now)))
 
 mul-w : tie.Need-mul-w Inv-loop μ-loop
 mul-w c = search needs
@@ -31,9 +31,6 @@ shared-slice-read-w c = search needs
 
 mul-p : tie.Need-mul-p Inv-loop μ-loop
 mul-p c = search needs
-
-add-p : tie.Need-add-p Inv-loop μ-loop
-add-p c = search needs
 
 cast-out : tie.Need-cast-out Inv-loop μ-loop
 cast-out c = search needs
@@ -77,10 +74,10 @@ loop-less c = search needs
 loop-again : tie.Need-loop-again Inv-loop μ-loop
 loop-again c =
     let l = c .before .before .loop in
-    let a = c .before .before .before .args in
+    let a = c .before .before .before .before .args in
     let w = getD (a .words .now) (l .i) 0 in
-    let p = a .at + 4 * l .i in
-    let next = state-next (a .out .now) (a .at) (a .words .now) (l .i) (search needs) (omega arith) in (
+    let p = 4 * l .i in
+    let next = state-next (a .out .now) (a .words .now) (l .i) (search needs) (omega arith) in (
       omega arith,
       (
         simp length-set (l .inv .1 .0),
@@ -91,23 +88,22 @@ loop-again c =
 same-length : tie.Need-same-length Inv-loop μ-loop
 same-length c = search needs
 
-returns : tie.Need-returns Inv-loop μ-loop
-returns c =
-    let a = c .before .before .args in
-    let e : c .before .loop .i ≡ a .n = omega arith in
-    c .before .loop .inv .1 .1 ∙ ap (λ (k : ℕ). state (a .out .now) (a .at) (a .words .now) k) e
+returns-2 : tie.Need-returns-2 Inv-loop μ-loop
+returns-2 c =
+    let e : c .before .loop .i ≡ length (c .before .before .before .args .words .now) = omega arith in
+    words-whole _ _ _ _ e (c .before .before .if1 .left) (c .before .loop .inv .1 .1)
 
-pub put-words-spec : {M : Type 1} → statement M
-put-words-spec =
+pub write-words-spec : {M : Type 1} → statement M
+write-words-spec =
     tie.close
     (tie.spec
     Inv-loop
     μ-loop
+    returns
     loop-holds
     mul-w
     shared-slice-read-w
     mul-p
-    add-p
     cast-out
     slice-write-out
     cast-out-2
@@ -123,4 +119,4 @@ put-words-spec =
     loop-less
     loop-again
     same-length
-    returns)
+    returns-2)
