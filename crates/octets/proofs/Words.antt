@@ -1,12 +1,14 @@
 -- Words stored one after the other are the words' bytes.
 use mathlib.Core.Path.{_≡_, refl, ap, _∙_}
 use mathlib.Core.List.{List, [], _∷_, _++_, append-assoc, append-nil}
-use Prim.Native.Nat.{ℕ, suc, _+_, _*_, _/_, _%_, _<_, _≤_}
+use Prim.Native.Nat.{ℕ, suc, _+_, _-_, _*_, _/_, _%_, _<_, _≤_}
 use native.Mathlib.Numerals.{add-one}
 use native.Mathlib.Omega.{arith}
 use lib.ListN.{length, getD, set, take, drop, length-append, length-drop}
 use lib.Seq.{take-suc, take-at, take-length, drop-append-add, drop-drop, sets, sets-eq, length-take-le}
 use borrow.Author.Tests.{le-leb, lt-leb}
+use borrow.Rule.Slice.PartMut.{putMid}
+use Rattle.laws.proofs.Pieces.{lent-rest}
 use Rattle.octets.specs.BigEndian.{bytesOf, wordBytes, withWords}
 use Rattle.octets.proofs.Written.{length-bytes}
 
@@ -88,3 +90,11 @@ four-stores l p w =
     let b : p + 2 ≡ suc (suc p) = omega arith in
     let c : p + 3 ≡ suc (suc (suc p)) = omega arith in
     rw (a, b, c)
+
+-- words over what is left of an output from a place on
+pub words-lent : (out ws v : List ℕ) (at : ℕ) → at + 4 * length ws ≤ length out → v ≡ withWords ws (take (length out - at) (drop at out))
+    → putMid at (length out - at) out v ≡ take at out ++ (wordBytes ws ++ drop (length (wordBytes ws)) (drop at out))
+words-lent out ws v at h q =
+    let part : List ℕ = take (length out - at) (drop at out) in
+    let l : length part ≡ length out - at = length-take-le (length out - at) (drop at out) (rw length-drop (omega arith)) in
+    lent-rest out (wordBytes ws) v at (q ∙ rw (le-leb (4 * length ws) (length part) (omega arith), length-words ws))

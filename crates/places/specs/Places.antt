@@ -7,6 +7,10 @@ use lib.Dec.{ltb, eqb}
 abbrev pub cpCount : ℕ
 cpCount = 60
 
+-- how many BP registers there are
+abbrev pub bpCount : ℕ
+bpCount = 256
+
 -- VCD group 0 or 1: registers 5X and 6X
 abbrev pub vcdPlace : ℕ → ℕ
 vcdPlace group = 2 + group

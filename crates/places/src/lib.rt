@@ -3,12 +3,14 @@ ghost use mathlib.Core.Path.{_≡_};
 ghost use Prim.Native.Nat.{_+_};
 ghost use Rattle.places.specs.Places.{vcdPlace, vatPlace, basePlace, stridePlace, cpPlace, cpAccepted};
 
-// The CP registers, where the array bases and the strides begin among them, and the XF words.
+// The CP registers, where the array bases and the strides begin among them, the BP registers, and the XF words.
 pub const COUNT: usize = 60;
 
 pub const BASES: usize = 28;
 
 pub const STRIDES: usize = 44;
+
+pub const BP_COUNT: usize = 256;
 
 pub const XF_COUNT: u32 = 4184;
 

@@ -1,2 +1,3 @@
 pub mod Injective
 pub mod Positive
+pub mod First

@@ -1,6 +1,6 @@
 -- "A refusal carries its number from document 01": the table "Numbers a caller may get", a line for each case, and document 02's: "New
 -- refusals from here on join document 01's."
-use Prim.Native.Nat.{ℕ}
+use Prim.Native.Nat.{ℕ, zero, suc}
 use Rattle.refusal.specs.declared.Reason.{Reason}
 use Rattle.refusal.specs.declared.Reason.the-variants.{InvalidState, XfMemoryLength, VertexBufferShort, ReadDisabled}
 use Rattle.refusal.specs.declared.Reason.the-variants.{LinkedMode, UnknownOpcode, UnknownCpAddress, XfLoadPastEnd}
@@ -34,3 +34,8 @@ number WrongCount = 20
 number NumberTooWide = 21
 number FileShort = 22
 number FileLong = 23
+
+-- the first of two refusals by their numbers, 0 where there is neither
+abbrev pub orElse : ℕ → ℕ → ℕ
+orElse zero other = other
+orElse (suc first) other = suc first

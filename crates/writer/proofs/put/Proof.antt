@@ -1,16 +1,14 @@
 -- `writer::put` meets its contract: the head is copied to the front, and the words go into what is left.
 use borrow.Author.Needs.{needs}
-use borrow.Author.Tests.{le-leb}
 use borrow.Rule.Slice.PartMut.{putMid}
 use mathlib.Core.Path.{_≡_, sym, ap, _∙_}
 use mathlib.Core.List.{List, _++_}
 use Prim.Native.Nat.{ℕ, _+_, _-_, _*_, _≤_}
 use native.Mathlib.Omega.{arith}
-use lib.ListN.{length, take, drop, length-drop}
+use lib.ListN.{length, take, drop}
 use lib.Seq.{length-take-le, take-length, drop-drop}
-use Rattle.laws.proofs.Pieces.{lent-rest}
 use Rattle.octets.specs.BigEndian.{wordBytes, withWords}
-use Rattle.octets.proofs.Words.{length-words}
+use Rattle.octets.proofs.Words.{length-words, words-lent}
 use Rattle.writer.proofs.put.Statement.{statement}
 use Rattle.writer.proofs.put.Tie as tie
 
@@ -26,14 +24,8 @@ copied at head out o e h = h ∙ rw (take-length head, e)
 lent : (at n : ℕ) (ws out v : List ℕ) → n ≡ length ws → at + 4 * n ≤ length out → v ≡ withWords ws (take (length out - at) (drop at out))
     → putMid at (length out - at) out v ≡ take at out ++ (wordBytes ws ++ drop (at + 4 * n) out)
 lent at n ws out v e h q =
-    let part : List ℕ = take (length out - at) (drop at out) in
-    let l : length part ≡ length out - at = length-take-le (length out - at) (drop at out) (rw length-drop (omega arith)) in
-    let w : length (wordBytes ws) ≡ 4 * length ws = length-words ws in
-    let b : v ≡ wordBytes ws ++ drop (length (wordBytes ws)) part =
-    q ∙ rw (le-leb (4 * length ws) (length part) (omega arith), w) in
-    let d : drop (length (wordBytes ws)) (drop at out) ≡ drop (at + 4 * n) out =
-    rw (w, e) (drop-drop (4 * length ws) at out) in
-    lent-rest out (wordBytes ws) v at b ∙ ap (λ (x : List ℕ). take at out ++ (wordBytes ws ++ x)) d
+    words-lent out ws v at (omega arith) q
+    ∙ ap (λ (x : List ℕ). take at out ++ (wordBytes ws ++ x)) (rw (length-words ws, e) (drop-drop (4 * length ws) at out))
 
 array-share-prefix-bytes : tie.Need-array-share-prefix-bytes
 array-share-prefix-bytes c = search needs
