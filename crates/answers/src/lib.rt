@@ -1,10 +1,12 @@
-// What a look, a taking and a run answer, as numbers.
+// What a look, a taking, a run and a writer answer, as numbers.
 use processor::StepAnswer;
 use running::Stop;
+use writer::Written;
 ghost use mathlib.Core.Path.{_≡_};
 ghost use Rattle.processor.specs.Step.{meaning};
 ghost use Rattle.running.specs.Run.{meaningOfStop};
 ghost use Rattle.encoding.specs.Told.{firstOf, secondOf, Tells};
+ghost use Rattle.answers.specs.Counting.{CountsBytes};
 
 // The number of what a look or a taking answers; where there is a unit its words, and where it waits the bytes lacking.
 pub fn tell_answer(answer: StepAnswer, unit: &mut [u32; 6], lacking: &mut u32) -> u32
@@ -46,5 +48,18 @@ pub fn stop_lacking(stop: Stop) -> u32
         Stop::Limit => 0,
         Stop::Waiting(lacking) => lacking,
         Stop::Refused(_) => 0,
+    }
+}
+
+// The number of a writer's answer, and where it is 0 the bytes written.
+pub fn tell_bytes(answer: Written, written: &mut u32) -> u32
+    ensures { λ r. ⌜ CountsBytes answer (now (written .entry)) r (now (written .exit)) ⌝ }
+{
+    match answer {
+        Written::Refused(reason) => encoding::refused(reason),
+        Written::Bytes(count) => {
+            *written = count;
+            0
+        }
     }
 }

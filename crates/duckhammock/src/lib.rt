@@ -1,5 +1,5 @@
 // The library's calls on numbers and slices under their names in C, for C and Rust to link, and for the program `show`.
-// `include/duckhammock.h` says them in C's words; the crates `access`, `stepping`, `formats` and `patching` do them.
+// `include/duckhammock.h` says them in C's words; the crates `access`, `stepping`, `formats`, `patching` and `filing` do them.
 //
 // The state is 327 words that the caller keeps (`words`, specs/State.antt). The number returned is 0 where the call was accepted, a unit
 // is told or was done or the limit was reached, 255 for waiting, and else the refusal's number. A refused or waiting call changes nothing
@@ -14,6 +14,8 @@ ghost use Rattle.access.specs.Calls.{ReadsRegister, WritesRegister, Feeds};
 ghost use Rattle.stepping.specs.Calls.{lentOf, Looks, TakesOne, Ends};
 ghost use Rattle.formats.specs.Formats.{LaysOut, TellsAttribute, TellsAll, KeepsBits};
 ghost use Rattle.patching.specs.Writing.{PutsCommand, PutsPatch, MergesInto};
+ghost use Rattle.recording.specs.Faults.{streamLimit, headPlace, restFault};
+ghost use Rattle.filing.specs.Calls.{ReadsFile, ReadsHead, PutsFile, PutsHead};
 
 // The fresh state.
 #[no_mangle]
@@ -203,4 +205,78 @@ pub extern "C" fn duckhammock_write_patch(
         r (now (output .exit)) (now (written .exit)) ⌝ }
 {
     patching::write(masks, numbers, output, written)
+}
+
+// Reads a recording: the registers, with no draw open, the XF words, where the stream stands and how long it is.
+#[no_mangle]
+pub extern "C" fn duckhammock_read_recording(
+    state: &mut [u32; 327],
+    file: &[u8],
+    xf: &mut [u32],
+    stream: &mut [u32; 2],
+) -> u32
+    ensures { λ r. ⌜ ReadsFile (now (state .entry)) (now (file .entry)) (now (xf .entry)) (now (stream .entry))
+        r (now (state .exit)) (now (xf .exit)) (now (stream .exit)) ⌝ }
+{
+    filing::read(state, file, xf, stream)
+}
+
+// Reads the first 18,016 bytes of a recording so, and tells how long its stream is.
+#[no_mangle]
+pub extern "C" fn duckhammock_read_recording_head(
+    state: &mut [u32; 327],
+    head: &[u8],
+    xf: &mut [u32],
+    length: &mut u32,
+) -> u32
+    ensures { λ r. ⌜ ReadsHead (now (state .entry)) (now (head .entry)) (now (xf .entry)) (now (length .entry))
+        r (now (state .exit)) (now (xf .exit)) (now (length .exit)) ⌝ }
+{
+    filing::read_head(state, head, xf, length)
+}
+
+// Whether so many bytes behind the head of a recording are the stream that it tells.
+#[no_mangle]
+pub extern "C" fn duckhammock_check_recording_rest(length: u32, rest: usize) -> u32
+    ensures { λ r. ⌜ r ≡ restFault length rest ⌝ }
+{
+    filing::check_rest(length, rest)
+}
+
+// The byte of the first fault of a recording's head, 18,016 where it has none.
+#[no_mangle]
+pub extern "C" fn duckhammock_find_recording_fault(head: &[u8]) -> u32
+    ensures { λ r. ⌜ r ≡ headPlace streamLimit (now (head .entry)) ⌝ }
+{
+    filing::find_fault(head)
+}
+
+// Writes a recording of the state's registers, the XF words and a stream, and tells its bytes.
+#[no_mangle]
+pub extern "C" fn duckhammock_write_recording(
+    state: &[u32; 327],
+    xf: &[u32],
+    stream: &[u8],
+    output: &mut [u8],
+    written: &mut u32,
+) -> u32
+    ensures { λ r. ⌜ PutsFile (now (state .entry)) (now (xf .entry)) (now (stream .entry)) (now (output .entry)) (now (written .entry))
+        r (now (output .exit)) (now (written .exit)) ⌝ }
+{
+    filing::write(state, xf, stream, output, written)
+}
+
+// Writes what stands in a recording before a stream of so many bytes, and tells its bytes.
+#[no_mangle]
+pub extern "C" fn duckhammock_write_recording_head(
+    state: &[u32; 327],
+    xf: &[u32],
+    length: usize,
+    output: &mut [u8],
+    written: &mut u32,
+) -> u32
+    ensures { λ r. ⌜ PutsHead (now (state .entry)) (now (xf .entry)) length (now (output .entry)) (now (written .entry))
+        r (now (output .exit)) (now (written .exit)) ⌝ }
+{
+    filing::write_head(state, xf, length, output, written)
 }

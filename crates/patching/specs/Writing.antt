@@ -6,16 +6,11 @@ use Prim.Native.Nat.{ℕ}
 use lib.Dec.{eqb}
 use lib.ListN.{length}
 use Rattle.writer.specs.Write as writer
+use Rattle.answers.specs.Counting.{PutsBytes}
 use Rattle.patch.specs.Patch.{Patch, mergedOf}
 use Rattle.patch.specs.Commands.{patchBytes}
 use Rattle.patch.specs.Answers.{writeRefusal}
 use Rattle.patch.specs.Merging.{mergeRefusal}
-
--- bytes written to the front of an output, and how many, unless this refuses it
-pub record PutsBytes (refusal : ℕ) (bytes out : List ℕ) (count r : ℕ) (out' : List ℕ) (count' : ℕ) : Type 0 where
-  pub answer-is : r ≡ refusal
-  pub out-is : out' ≡ cond (eqb r 0) (writer.placed bytes out) out
-  pub count-is : count' ≡ cond (eqb r 0) (length bytes) count
 
 -- one command with its lent words, written
 abbrev pub PutsCommand : List ℕ → List ℕ → List ℕ → ℕ → ℕ → List ℕ → ℕ → Type 0

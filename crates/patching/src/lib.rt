@@ -1,12 +1,10 @@
 // Commands written, and patches (document 01's correction sheets) checked, merged and written.
 use patch::Checked;
-use writer::Written;
 ghost use mathlib.Core.Path.{_≡_};
 ghost use Rattle.patch.specs.Patch.{patchOf, faultOf};
 ghost use Rattle.patch.specs.Answers.{meaning};
 ghost use Rattle.encoding.specs.Named.{commandNamed};
 ghost use Rattle.patching.specs.Writing.{PutsCommand, PutsPatch, MergesInto};
-ghost use Rattle.patching.specs.Counting.{CountsBytes};
 
 // The number of a check's answer.
 fn checked_number(found: Checked) -> u32
@@ -18,26 +16,13 @@ fn checked_number(found: Checked) -> u32
     }
 }
 
-// The number of a writer's answer, and where it is 0 the bytes written.
-fn tell_bytes(answer: Written, written: &mut u32) -> u32
-    ensures { λ r. ⌜ CountsBytes answer (now (written .entry)) r (now (written .exit)) ⌝ }
-{
-    match answer {
-        Written::Refused(reason) => encoding::refused(reason),
-        Written::Bytes(count) => {
-            *written = count;
-            0
-        }
-    }
-}
-
 // Writes the command that five words name, an XF load with its lent words, and tells its bytes.
 pub fn write_command(command: &[u32; 5], lent: &[u32], output: &mut [u8], written: &mut u32) -> u32
     ensures { λ r. ⌜ PutsCommand (commandNamed (now (command .entry))) (now (lent .entry)) (now (output .entry)) (now (written .entry))
         r (now (output .exit)) (now (written .exit)) ⌝ }
 {
     let answer = writer::write(encoding::command(command), lent, output);
-    tell_bytes(answer, written)
+    answers::tell_bytes(answer, written)
 }
 
 // Whether a patch is accepted.
@@ -70,5 +55,5 @@ pub fn write(masks: &[u32], numbers: &[u32], output: &mut [u8], written: &mut u3
         r (now (output .exit)) (now (written .exit)) ⌝ }
 {
     let answer = patch::write(masks, numbers, output);
-    tell_bytes(answer, written)
+    answers::tell_bytes(answer, written)
 }

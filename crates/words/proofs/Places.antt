@@ -13,7 +13,7 @@ use Rattle.words.specs.State.{fifoOf, windowOf, fifoWords, windowWords, 
 
 module _ (l : List ℕ) (long : length l ≡ 327) where
   -- the fifo's words, and the rest
-  front : fifoWords (fifoOf l) ++ drop 7 l ≡ l
+  pub front : fifoWords (fifoOf l) ++ drop 7 l ≡ l
   unfolding upTo fifoOf
   front = ap (λ (x : List ℕ). x ++ drop 7 l) (sym (firsts 7 l (omega arith))) ∙ take-append-drop 7 l
 

@@ -13,7 +13,9 @@ ghost use Rattle.words.specs.State.{windowOf, fifoOf, leftOf, cpOf, bpOf
 ghost use Rattle.words.specs.State.{windowWords, fifoWords, drawWords, wordsBy, fifoStored};
 ghost use Rattle.words.specs.Front.{frontOf, wordsAfterUnit};
 
-// The places of the CP registers, words 11 to 70, and of the BP registers, words 71 to 326.
+// The places of the draw, words 7 to 10, of the CP registers, words 11 to 70, and of the BP registers, words 71 to 326.
+const DRAW_PLACE: usize = 7;
+
 const CP_PLACE: usize = 11;
 
 pub const BP_PLACE: usize = 71;
@@ -112,6 +114,15 @@ pub fn cp(words: &[u32; 327]) -> [u32; 60]
     cp
 }
 
+// Words 71 to 326.
+pub fn bp(words: &[u32; 327]) -> [u32; 256]
+    ensures { λ r. ⌜ r ≡ bpOf (now (words .entry)) ⌝ }
+{
+    let mut bp = [0u32; 256];
+    fill(&mut bp, words, BP_PLACE);
+    bp
+}
+
 // Words 0 to 5.
 fn window_words(window: Window) -> [u32; 6]
     ensures { λ r. ⌜ r ≡ windowWords window ⌝ }
@@ -189,7 +200,7 @@ fn save_front(state: &mut [u32; 327], fifo: Fifo, draw: Draw)
     let front = fifo_words(fifo);
     let drawn = draw_words(draw);
     store(state, 0, &front);
-    store(state, 7, &drawn);
+    store(state, DRAW_PLACE, &drawn);
 }
 
 // Writes words 0 to 70: all before the BP registers.
@@ -205,6 +216,16 @@ pub fn save(state: &mut [u32; 327], fifo: Fifo, cp: &[u32; 60], bp: &[u32; 256],
     ensures { λ _. ⌜ now (state .exit) ≡ wordsBy fifo (now (cp .entry)) (now (bp .entry)) draw ⌝ }
 {
     save_front(state, fifo, draw);
+    store(state, CP_PLACE, cp);
+    store(state, BP_PLACE, bp);
+}
+
+// Writes words 7 to 326: the draw and the registers. The window and the control word stay.
+pub fn save_registers(state: &mut [u32; 327], cp: &[u32; 60], bp: &[u32; 256], draw: Draw)
+    ensures { λ _. ⌜ now (state .exit) ≡ wordsBy (fifoOf (now (state .entry))) (now (cp .entry)) (now (bp .entry)) draw ⌝ }
+{
+    let drawn = draw_words(draw);
+    store(state, DRAW_PLACE, &drawn);
     store(state, CP_PLACE, cp);
     store(state, BP_PLACE, bp);
 }

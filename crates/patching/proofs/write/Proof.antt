@@ -1,5 +1,5 @@
 -- `patching::write` meets its contract: it is the patch written, with the number of its answer.
-use Rattle.patching.proofs.Lending.{puts}
+use Rattle.answers.proofs.Counted.{puts}
 use borrow.Author.Needs.{needs}
 use Rattle.patching.proofs.write.Statement.{statement}
 use Rattle.patching.proofs.write.Tie as tie

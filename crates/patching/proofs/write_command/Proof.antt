@@ -1,6 +1,6 @@
 -- `patching::write_command` meets its contract: it is the command that the words name, with its number.
 use mathlib.Core.Path.{sym}
-use Rattle.patching.proofs.Lending.{puts}
+use Rattle.answers.proofs.Counted.{puts}
 use borrow.Author.Needs.{needs}
 use Rattle.patching.proofs.write_command.Statement.{statement}
 use Rattle.patching.proofs.write_command.Tie as tie

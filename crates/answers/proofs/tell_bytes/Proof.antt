@@ -1,8 +1,8 @@
--- `patching::tell_bytes` meets its contract: in each arm the answer is known.
-use Rattle.patching.proofs.Lending.{count-refused, count-done}
+-- `answers::tell_bytes` meets its contract: in each arm the answer is known.
+use Rattle.answers.proofs.Counted.{count-refused, count-done}
 use borrow.Author.Needs.{needs}
-use Rattle.patching.proofs.tell_bytes.Statement.{statement}
-use Rattle.patching.proofs.tell_bytes.Tie as tie
+use Rattle.answers.proofs.tell_bytes.Statement.{statement}
+use Rattle.answers.proofs.tell_bytes.Tie as tie
 
 enum-known-answer : tie.Need-enum-known-answer
 enum-known-answer c = search needs

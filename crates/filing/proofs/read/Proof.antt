@@ -1,0 +1,60 @@
+-- `filing::read` meets its contract: registers are stored where the file is accepted, and else nothing.
+use mathlib.Core.Path.{sym, ap, _∙_}
+use Rattle.encoding.proofs.Refusals.{stays}
+use Rattle.recording.specs.Answers.{meaningOfRead}
+use Rattle.filing.proofs.Loading.{refused-is, accepted-is, refused-into, loaded-into}
+use borrow.Author.Needs.{needs}
+use Rattle.filing.proofs.read.Statement.{statement}
+use Rattle.filing.proofs.read.Tie as tie
+
+read-requires : tie.Need-read-requires
+read-requires c κs = search needs
+
+enum-known-answer : tie.Need-enum-known-answer
+enum-known-answer c = search needs
+
+refused-requires : tie.Need-refused-requires
+refused-requires c κs = search needs
+
+enum-known-answer-2 : tie.Need-enum-known-answer-2
+enum-known-answer-2 c = search needs
+
+save-requires : tie.Need-save-requires
+save-requires c κs = search needs
+
+same-length : tie.Need-same-length
+same-length c = search needs
+
+returns : tie.Need-returns
+returns c =
+    let k = c .before .before .before .before .before .before .before .read .ensures in
+    let told = c .before .before .answer .given in
+    let e = refused-is _ _ (ap meaningOfRead (sym (told .1)) ∙ k .answer-is) in
+    record {
+      loads = refused-into _ _ _ _ (k .loads) (told .0 .0) e (c .refused .ensures);
+      stream-is = stays (told .0 .0) (c .refused .ensures) _ _;
+    }
+
+same-length-2 : tie.Need-same-length-2
+same-length-2 c = search needs
+
+returns-2 : tie.Need-returns-2
+returns-2 c =
+    let k = c .before .before .before .before .before .before .before .before .before .read .ensures in
+    let told = c .before .before .before .before .answer2 .given in
+    let e = accepted-is _ _ (ap meaningOfRead (sym (told .1)) ∙ k .answer-is) in
+    record { loads = loaded-into _ _ _ _ (k .loads) (e .0) (c .before .save .ensures); stream-is = e .1 }
+
+pub read-spec : {M : Type 1} → statement M
+read-spec =
+    tie.close
+    (tie.spec
+    read-requires
+    enum-known-answer
+    refused-requires
+    enum-known-answer-2
+    save-requires
+    same-length
+    returns
+    same-length-2
+    returns-2)
