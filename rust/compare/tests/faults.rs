@@ -76,7 +76,8 @@ fn every_fault_is_found_on_the_other_side() {
 
 /// Those of the faults that the header rules out whatever the rules are: a refused
 /// call that changes something, a call that changes what it must not, bytes lacking
-/// that cannot be, a look and a take that do not tell the same.
+/// that cannot be, a look and a take that do not tell the same, a length of a recording
+/// that cannot be.
 const RULED_OUT: &[Fault] = &[
     Fault::ValueZeroed,
     Fault::UnitZeroed,
@@ -122,6 +123,33 @@ const RULED_OUT: &[Fault] = &[
     Fault::LookUnitZeroed,
     Fault::LookLackingZeroed,
     Fault::TakeNamesAnother,
+    Fault::ReadingTailPassed,
+    Fault::ReadingLeavesTheDraw,
+    Fault::ReadingLeavesStaleWords,
+    Fault::ReadingFreshWindow,
+    Fault::ReadingFreshControl,
+    Fault::ReadingMasksControl,
+    Fault::ReadingTellsPlace0,
+    Fault::ReadingTellsTheFile,
+    Fault::ReadingZeroesStream,
+    Fault::ReadingOnePass,
+    Fault::ReadingStoresRegisters,
+    Fault::ReadingHeadFirst,
+    Fault::HeadTestsTheRest,
+    Fault::HeadOfJustItsBytes,
+    Fault::HeadLeavesTheDraw,
+    Fault::HeadMasksControl,
+    Fault::HeadZeroesLength,
+    Fault::RestTestsTheCount,
+    Fault::FindingTheLength,
+    Fault::WritingTailCleared,
+    Fault::WritingHeadBefore16,
+    Fault::WritingZeroesOutput,
+    Fault::WritingZeroesWritten,
+    Fault::WritingClosesTheDraw,
+    Fault::WritingMasksTheState,
+    Fault::WritingClearsXfWords,
+    Fault::HeadWritingTellsTheFile,
 ];
 
 /// They are found where both sides have the same.

@@ -20,10 +20,10 @@ const NARROW: [(usize, usize, u32); 3] = [
 /// A recording by chance: written, read back by another machine, and run; or a
 /// damaged one, or writings that are refused.
 pub fn recordings(duo: &mut Duo, random: &mut Random) {
-    match random.below(8) {
+    match random.below(9) {
         0..=2 => written_and_run(duo, random),
         3..=5 => damaged(duo, random),
-        6 => refused_writings(duo, random),
+        6 | 7 => refused_writings(duo, random),
         _ => rests(duo, random),
     }
 }
@@ -162,11 +162,7 @@ fn damage(random: &mut Random, file: &mut Vec<u8>, length: usize) {
         5..=8 => put(file, section.place(number), any_number(random, section)),
         9 => file.resize(file.len() + random.pick(&[1, 4, 9, 700]), random.u8()),
         10 => file.truncate(HEAD + random.below(length as u32 + 1) as usize),
-        _ => put(
-            file,
-            HEAD - NUMBER_BYTES,
-            stream_count(random, length as u32),
-        ),
+        _ => count_stream(random, file, length as u32),
     }
 }
 
@@ -195,17 +191,23 @@ fn any_number(random: &mut Random, section: &Section) -> u32 {
     random.pick(&[right, past, past, right.wrapping_sub(1), bit, bit, any])
 }
 
-fn stream_count(random: &mut Random, length: u32) -> u32 {
+/// Another count of the stream; sometimes there are as many bytes behind it.
+fn count_stream(random: &mut Random, file: &mut Vec<u8>, length: u32) {
     let any = random.word();
-    random.pick(&[
+    let count = random.pick(&[
         length + 1,
         length.saturating_sub(1),
         0x1_0000 + length,
         0x100_0000 + length,
         65_535,
+        65_535,
         65_536,
         any,
-    ])
+    ]);
+    put(file, HEAD - NUMBER_BYTES, count);
+    if count <= 65_536 && file.len() >= HEAD && random.once_in(2) {
+        file.resize(HEAD + count as usize, 0x48);
+    }
 }
 
 /// Writings with a fault or a few: a register too wide, XF words of another length,
