@@ -105,10 +105,10 @@ impl Tally {
             Call::FindRecordingFault { head } => {
                 add(&mut self.found, found_at(head.len(), answer as usize));
             }
-            Call::ReadRecording { file, .. } if answer == FILE_SHORT => {
-                if file.len() >= RECORDING_HEAD_BYTES {
-                    add(&mut self.found, Found::StreamCut);
-                }
+            Call::ReadRecording { file, .. }
+                if answer == FILE_SHORT && file.len() >= RECORDING_HEAD_BYTES =>
+            {
+                add(&mut self.found, Found::StreamCut);
             }
             _ => {}
         }

@@ -203,6 +203,36 @@ fn a_take_unlike_its_look_is_told() {
     }
 }
 
+/// So is what a recording leaves or tells that cannot be, on both sides alike.
+#[test]
+fn a_recording_that_is_read_wrongly_is_told() {
+    let cases = [
+        (
+            Fault::ReadingFreshControl,
+            "differs first: nothing, but a recording that is read leaves ",
+            " in state, place 6\n    faulty: 10",
+        ),
+        (
+            Fault::ReadingTellsPlace0,
+            "differs first: nothing, but both told a length that cannot be",
+            "\n    faulty: 0",
+        ),
+        (
+            Fault::ReadingStoresRegisters,
+            "differs first: nothing, but both changed state, place ",
+            "\n  answers 2",
+        ),
+    ];
+    for (fault, what, values) in cases {
+        let mut duo = Duo::new(Box::new(Faulty(fault)), Box::new(Faulty(fault)));
+        scenarios::compare(&mut duo, SEED, CALLS);
+        let told = duo.fault().expect("a difference");
+        for part in ["\", read_recording:", "\n    file ", what, values] {
+            assert!(told.contains(part), "{part} in {told}");
+        }
+    }
+}
+
 #[test]
 fn a_seed_gives_the_same_calls() {
     let fault = |seed| {

@@ -520,7 +520,7 @@ fn a_file_is_its_head_and_its_rest() {
         match answer {
             DONE | 23 => assert_eq!(fault, HEAD),
             22 => assert_eq!(fault, file.len().min(HEAD)),
-            _ => assert!(fault < HEAD && fault % 4 == 0),
+            _ => assert!(fault < HEAD && fault.is_multiple_of(4)),
         }
     }
 }

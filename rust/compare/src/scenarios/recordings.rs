@@ -17,6 +17,12 @@ const NARROW: [(usize, usize, u32); 3] = [
     (word::BP, 256, 0xFF_FFFF),
 ];
 
+/// XF words that are not 4,184.
+const OTHER_LENGTHS: [usize; 5] = [0, 1, 4183, 4185, 8368];
+
+/// The first and the last word of each kind of register.
+const REGISTERS: [usize; 10] = [11, 14, 15, 38, 39, 54, 55, 70, 71, 326];
+
 /// A recording by chance: written, read back by another machine, and run; or a
 /// damaged one, or writings that are refused.
 pub fn recordings(duo: &mut Duo, random: &mut Random) {
@@ -122,7 +128,6 @@ fn damaged(duo: &mut Duo, random: &mut Random) {
     let length = random.pick(&[0, 1, 3, 4, 40, 700]);
     let stream = random.bytes(length);
     let (_, file) = duo.write_recording(&stream, HEAD + length);
-    any_machine(duo, random);
     for _ in 0..random.between(6, 12) {
         if duo.fault().is_some() {
             return;
@@ -131,19 +136,34 @@ fn damaged(duo: &mut Duo, random: &mut Random) {
         for _ in 0..random.pick(&[1, 1, 1, 2, 2, 3]) {
             damage(random, &mut spoilt, length);
         }
-        let lends_wrongly = random.once_in(10);
-        if lends_wrongly {
-            lend_xf(duo, random.pick(&[0, 1, 4183, 4185, 8368]));
+        let mut xf = USUAL.xf;
+        if random.once_in(10) {
+            xf = random.pick(&OTHER_LENGTHS);
         }
-        read_every_way(duo, &spoilt);
-        lend_xf(duo, USUAL.xf);
+        read_every_way(duo, random, &spoilt, xf);
     }
 }
 
-/// Where its fault is, by the head alone, whole, and what is behind the head.
-fn read_every_way(duo: &mut Duo, file: &[u8]) {
+/// Memory that holds other things than the file, with so many XF words; window,
+/// control and an open draw by chance.
+fn another_machine(duo: &mut Duo, random: &mut Random, xf: usize) {
+    duo.hold(Lent { xf, ..USUAL });
+    for index in 0..=word::LEFT {
+        duo.poke(index, random.word());
+    }
+    duo.poke(word::DRAW_OPEN, 1);
+    for index in REGISTERS {
+        duo.poke(index, random.word());
+    }
+}
+
+/// Where its fault is, read whole and by its head alone, each by another machine, and
+/// what is behind the head.
+fn read_every_way(duo: &mut Duo, random: &mut Random, file: &[u8], xf: usize) {
     duo.find_recording_fault(file);
+    another_machine(duo, random, xf);
     duo.read_recording(file);
+    another_machine(duo, random, xf);
     let (answer, length) = duo.read_recording_head(file);
     if answer == DONE && duo.fault().is_none() {
         duo.check_recording_rest(length, file.len() - HEAD);
@@ -221,7 +241,7 @@ fn refused_writings(duo: &mut Duo, random: &mut Random) {
         for _ in 0..random.pick(&[1, 1, 2, 3]) {
             match random.below(4) {
                 0 => widen_register(duo, random),
-                1 => lend_xf(duo, random.pick(&[0, 1, 4183, 4185, 8368])),
+                1 => lend_xf(duo, random.pick(&OTHER_LENGTHS)),
                 2 => length = LONGEST_STREAM + random.pick(&[1, 2, 100]),
                 _ => short = random.pick(&[1, 1, 2, 5000, HEAD, HEAD + length]),
             }
@@ -273,42 +293,38 @@ pub fn every_fault(duo: &mut Duo) {
     let stream = random.bytes(9);
     let (_, file) = duo.write_recording(&stream, HEAD + 9);
     duo.write_recording_head(9, HEAD);
-    any_machine(duo, random);
     for section in &SECTIONS {
         for number in [0, section.numbers - 1] {
-            every_number(duo, &file, section.place(number), section);
+            every_number(duo, random, &file, section, number);
         }
     }
-    every_rest(duo, &file);
-    every_length(duo, &file);
+    every_rest(duo, random, &file);
+    every_length(duo, random, &file);
     every_writing(duo);
 }
 
 /// A number at and past its bounds, and the file cut at each of its bytes.
-fn every_number(duo: &mut Duo, file: &[u8], place: usize, section: &Section) {
+fn every_number(duo: &mut Duo, random: &mut Random, file: &[u8], section: &Section, number: usize) {
+    let place = section.place(number);
     let (Holds::Count(right) | Holds::AtMost(right)) = section.holds;
+    let mut spoilt = file.to_vec();
     for number in [
         right,
-        right.wrapping_add(1),
         right.wrapping_sub(1),
+        right.wrapping_add(1),
         u32::MAX,
     ] {
-        if duo.fault().is_some() {
-            return;
-        }
-        let mut spoilt = file.to_vec();
         put(&mut spoilt, place, number);
-        read_every_way(duo, &spoilt);
+        read_every_way(duo, random, &spoilt, USUAL.xf);
     }
-    let mut spoilt = file.to_vec();
-    put(&mut spoilt, place, u32::MAX);
-    for bytes in 0..NUMBER_BYTES.min(spoilt.len()) {
-        read_every_way(duo, spoilt.get(..place + bytes).unwrap_or_default());
+    for bytes in 0..NUMBER_BYTES {
+        spoilt.truncate(place + NUMBER_BYTES - 1 - bytes);
+        read_every_way(duo, random, &spoilt, USUAL.xf);
     }
 }
 
 /// What is behind the head: cut, too long, and with a count above the limit.
-fn every_rest(duo: &mut Duo, file: &[u8]) {
+fn every_rest(duo: &mut Duo, random: &mut Random, file: &[u8]) {
     for (count, bytes) in [
         (9, 9),
         (9, 8),
@@ -327,25 +343,23 @@ fn every_rest(duo: &mut Duo, file: &[u8]) {
         let mut spoilt = file.to_vec();
         spoilt.resize(HEAD + bytes, 0x48);
         put(&mut spoilt, HEAD - NUMBER_BYTES, count);
-        read_every_way(duo, &spoilt);
+        read_every_way(duo, random, &spoilt, USUAL.xf);
         duo.check_recording_rest(count, bytes);
         duo.check_recording_rest(count, bytes + 0x1_0000_0000);
     }
 }
 
 /// 2 before the faults of a file.
-fn every_length(duo: &mut Duo, file: &[u8]) {
+fn every_length(duo: &mut Duo, random: &mut Random, file: &[u8]) {
     let mut spoilt = file.to_vec();
     put(&mut spoilt, 0, 255);
     let mut longer = file.to_vec();
     longer.push(0);
-    for xf in [0, 4183, 4185] {
-        lend_xf(duo, xf);
+    for xf in OTHER_LENGTHS {
         for file in [file, &spoilt, &longer, &[]] {
-            read_every_way(duo, file);
+            read_every_way(duo, random, file, xf);
         }
     }
-    lend_xf(duo, USUAL.xf);
 }
 
 /// 1, 2, 20 and 16, each with all that come later.

@@ -129,10 +129,10 @@ fn by_group(state: &mut StateWords) {
     }
 }
 
-/// What is wrong with the registers and XF words after a file that is accepted.
+/// What is wrong with the state and the XF words after a file that is accepted.
 fn spoil_loaded(fault: Fault, was: &StateWords, state: &mut StateWords, xf: &mut [u32]) {
     match fault {
-        Fault::ReadingLeavesTheDraw | Fault::HeadLeavesTheDraw => {
+        Fault::ReadingLeavesTheDraw => {
             state[OPEN..OPEN + 4].copy_from_slice(&was[OPEN..OPEN + 4]);
         }
         Fault::ReadingLeavesStaleWords => {
@@ -140,7 +140,7 @@ fn spoil_loaded(fault: Fault, was: &StateWords, state: &mut StateWords, xf: &mut
         }
         Fault::ReadingFreshWindow => state[..CONTROL].fill(0),
         Fault::ReadingFreshControl => state[CONTROL] = 0x10,
-        Fault::ReadingMasksControl | Fault::HeadMasksControl => state[CONTROL] &= 0x3F,
+        Fault::ReadingMasksControl => state[CONTROL] &= 0x3F,
         Fault::ReadingVatByGroup => by_group(state),
         Fault::ReadingMaskReset => state[BP_WORDS.start + 0xFE] = 0xFF_FFFF,
         Fault::ReadingLastStrideLeft => state[70] = was[70],
@@ -148,6 +148,17 @@ fn spoil_loaded(fault: Fault, was: &StateWords, state: &mut StateWords, xf: &mut
             xf.rotate_right(1);
             xf[0] = XF_WORDS as u32;
         }
+        _ => {}
+    }
+}
+
+/// The same after a head that is accepted.
+fn spoil_head(fault: Fault, was: &StateWords, state: &mut StateWords, xf: &mut [u32]) {
+    match fault {
+        Fault::HeadLeavesTheDraw => {
+            state[OPEN..OPEN + 4].copy_from_slice(&was[OPEN..OPEN + 4]);
+        }
+        Fault::HeadMasksControl => state[CONTROL] &= 0x3F,
         Fault::HeadXfWordLittleEndian => xf[0] = xf[0].swap_bytes(),
         _ => {}
     }
@@ -176,7 +187,8 @@ impl Reading<'_> {
             _ => reading_answer(fault, &file, read),
         };
         if answer == DONE {
-            self.keep(fault, state, xf);
+            spoil_loaded(fault, self.state, &mut state, &mut xf);
+            self.keep(state, xf);
             *stream = told;
         } else {
             self.spoil_refused(fault, answer);
@@ -206,7 +218,8 @@ impl Reading<'_> {
             _ => read,
         };
         if answer == DONE {
-            self.keep(fault, state, xf);
+            spoil_head(fault, self.state, &mut state, &mut xf);
+            self.keep(state, xf);
             *length = told;
         }
         match fault {
@@ -217,9 +230,8 @@ impl Reading<'_> {
         answer
     }
 
-    /// What was read, with a fault, is held.
-    fn keep(&mut self, fault: Fault, mut state: StateWords, mut xf: Vec<u32>) {
-        spoil_loaded(fault, self.state, &mut state, &mut xf);
+    /// What was read is held.
+    fn keep(&mut self, state: StateWords, mut xf: Vec<u32>) {
         *self.state = state;
         xf.resize(self.xf.len(), 0);
         self.xf.copy_from_slice(&xf);
