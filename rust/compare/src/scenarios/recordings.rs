@@ -61,7 +61,7 @@ fn leave_a_draw(duo: &mut Duo, random: &mut Random) {
 /// What one machine recorded another reads, whole or in two parts, and runs.
 fn written_and_run(duo: &mut Duo, random: &mut Random) {
     duo.scenario("recordings");
-    let long = random.once_in(10);
+    let long = random.once_in(6);
     open_ring(duo, random);
     let mut units = Units::new(scatter_registers(duo, random));
     record_registers(duo, random);
@@ -70,10 +70,8 @@ fn written_and_run(duo: &mut Duo, random: &mut Random) {
     }
     let mut stream = units.bytes();
     if long {
-        stream.resize(
-            random.pick(&[LONGEST_STREAM, LONGEST_STREAM - 1, 40_000]),
-            0,
-        );
+        let length = random.pick(&[LONGEST_STREAM, LONGEST_STREAM, 40_000]);
+        stream.resize(length, 0);
     }
     let tail = random.pick(&[0, 0, 1, 500]);
     let (_, file) = duo.write_recording(&stream, HEAD + stream.len() + tail);
@@ -234,11 +232,11 @@ fn count_stream(random: &mut Random, file: &mut Vec<u8>, length: u32) {
 /// a stream too long, an output too short.
 fn refused_writings(duo: &mut Duo, random: &mut Random) {
     duo.scenario("refused recordings");
-    for _ in 0..random.between(3, 6) {
+    for _ in 0..random.between(4, 8) {
         any_machine(duo, random);
-        let mut length = random.pick(&[0, 1, 100, LONGEST_STREAM]);
+        let mut length = random.pick(&[0, 1, 100, LONGEST_STREAM, LONGEST_STREAM]);
         let mut short = 0;
-        for _ in 0..random.pick(&[1, 1, 2, 3]) {
+        for _ in 0..random.pick(&[0, 1, 1, 1, 2, 3]) {
             match random.below(4) {
                 0 => widen_register(duo, random),
                 1 => lend_xf(duo, random.pick(&OTHER_LENGTHS)),
@@ -250,7 +248,7 @@ fn refused_writings(duo: &mut Duo, random: &mut Random) {
         let stream = random.bytes(length);
         duo.write_recording(&stream, room);
         let wide = 0x1_0000_0000 + length;
-        let told = random.pick(&[length, length, wide, usize::MAX]);
+        let told = random.pick(&[length, wide, wide, usize::MAX]);
         duo.write_recording_head(told, HEAD - short.min(HEAD));
     }
 }
@@ -290,6 +288,7 @@ pub fn every_fault(duo: &mut Duo) {
     duo.scenario("every fault of a recording");
     let random = &mut Random::new(0x7265_636F);
     any_machine(duo, random);
+    duo.poke(word::BP + 0xFE, 0x12_3456);
     let stream = random.bytes(9);
     let (_, file) = duo.write_recording(&stream, HEAD + 9);
     duo.write_recording_head(9, HEAD);
@@ -303,7 +302,8 @@ pub fn every_fault(duo: &mut Duo) {
     every_writing(duo);
 }
 
-/// A number at and past its bounds, and the file cut at each of its bytes.
+/// A number at and past its bounds, and the file cut behind it and at each of its
+/// bytes.
 fn every_number(duo: &mut Duo, random: &mut Random, file: &[u8], section: &Section, number: usize) {
     let place = section.place(number);
     let (Holds::Count(right) | Holds::AtMost(right)) = section.holds;
@@ -317,8 +317,8 @@ fn every_number(duo: &mut Duo, random: &mut Random, file: &[u8], section: &Secti
         put(&mut spoilt, place, number);
         read_every_way(duo, random, &spoilt, USUAL.xf);
     }
-    for bytes in 0..NUMBER_BYTES {
-        spoilt.truncate(place + NUMBER_BYTES - 1 - bytes);
+    for bytes in (0..=NUMBER_BYTES).rev() {
+        spoilt.truncate(place + bytes);
         read_every_way(duo, random, &spoilt, USUAL.xf);
     }
 }
@@ -362,7 +362,8 @@ fn every_length(duo: &mut Duo, random: &mut Random, file: &[u8]) {
     }
 }
 
-/// 1, 2, 20 and 16, each with all that come later.
+/// 1, 2, 20 and 16, each with all that come later; window, control and draw are such
+/// as no machine has.
 fn every_writing(duo: &mut Duo) {
     let long = LONGEST_STREAM + 1;
     for (wide, xf, length, room) in [
@@ -379,6 +380,7 @@ fn every_writing(duo: &mut Duo) {
         (None, 4184, 9, HEAD + 20),
     ] {
         duo.fresh();
+        (0..=word::LEFT).for_each(|index| duo.poke(index, u32::MAX));
         lend_xf(duo, xf);
         if let Some((index, number)) = wide {
             duo.poke(index, number);
