@@ -1,9 +1,9 @@
 //! Document 02's L1, of the proved library and of the twin. Files are made here, number
-//! by number. A file cut at every byte of its head, with every number at its bounds and
-//! past them, with two faults, and with streams and rests of many lengths: its answer and
-//! the byte of its fault are those that the place gives. What is refused changes nothing,
-//! a file is its head and its rest, and what is written and what is read back are the
-//! same, both ways.
+//! by number. A file cut at every byte of its head (and read at every seventh), with
+//! every number at its bounds and past them, with two faults, and with streams and rests
+//! of many lengths: its answer and the byte of its fault are those that the place gives.
+//! What is refused changes nothing, a file is its head and its rest, and what is written
+//! and what is read back are the same, both ways.
 #![forbid(unsafe_code)]
 
 use compare::random::Random;
@@ -268,7 +268,7 @@ fn there_and_back() {
     }
 }
 
-/// "Reading a whole file is reading its head and checking the rest", of files with
+/// "To read a head and then to check the rest is to read the file": of files with
 /// faults by chance.
 #[test]
 fn a_file_is_its_head_and_its_rest() {

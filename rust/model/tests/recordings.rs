@@ -284,7 +284,7 @@ fn an_accepted_file_is_what_the_writer_gives() {
     }
 }
 
-/// 20, of every count: "the number's first byte".
+/// 20, of every count, at "its first byte".
 #[test]
 fn a_wrong_count() {
     let file = empty_file(9);

@@ -16,6 +16,7 @@ const VAT_WORDS: usize = 4;
 const BASES: usize = 5;
 const STRIDES: usize = 6;
 const XF_SECTION: usize = 8;
+const STREAM_SECTION: usize = 9;
 
 /// Words of the state.
 const VAT: usize = 15;
@@ -298,7 +299,7 @@ pub fn find_fault(fault: Fault, head: &[u8]) -> u32 {
         (Fault::FindingLastByte, Found::Wrong(_)) => byte + 3,
         (Fault::FindingNumbers, _) => byte / 4,
         (Fault::FindingTheLength, Found::Nothing) => head.len() as u32,
-        (Fault::FindingNoStreamCount, Found::Wrong(9)) => HEAD as u32,
+        (Fault::FindingNoStreamCount, Found::Wrong(STREAM_SECTION)) => HEAD as u32,
         (Fault::FindingCutBeforeWide, Found::Wrong(_)) if head.len() < HEAD => head.len() as u32,
         _ => byte,
     }

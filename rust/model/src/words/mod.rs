@@ -296,7 +296,7 @@ fn keep_recorded(state: &mut StateWords, bench: &State) {
     state[DRAW_OPEN..].copy_from_slice(&state_words(bench)[DRAW_OPEN..]);
 }
 
-/// "words 0 to 6 stay as they are, whatever they hold"
+/// "words 0 to 6 (window and control) stay, whatever they hold"
 pub fn read_recording(
     state: &mut StateWords,
     file: &[u8],
@@ -338,7 +338,7 @@ pub fn find_recording_fault(head: &[u8]) -> u32 {
     find_fault(head) as u32
 }
 
-/// "of the state only words 11 to 326 are looked at"
+/// "Of the state only words 11 to 326 are looked at"
 pub fn write_recording(
     state: &StateWords,
     xf: &[u32],
