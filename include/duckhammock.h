@@ -435,10 +435,10 @@ uint32_t duckhammock_write_patch(const uint32_t *masks, size_t masks_len,
  * and nothing follows. So the numbers stand in the first 18,016 bytes, the head, the
  * stream's count in its last four, and the stream from byte 18,016 on.
  *
- * A BP register has 24 bits, an array base 26 and a stride 8; every other number has
- * 32 and is never too wide. A number that is not whole is no number: it gives 22, also
- * where its first bytes are too wide or a wrong count already. A stream's count above
- * 65,535 gives 20, whatever follows it.
+ * A BP register has 24 bits, an array base 26 and a stride 8; every other register and
+ * an XF word have 32 and are never too wide. A number that is not whole is no number:
+ * it gives 22, also where its first bytes are too wide or a wrong count already. A
+ * stream's count above 65,535 gives 20, whatever follows it.
  */
 
 /*
@@ -474,7 +474,7 @@ uint32_t duckhammock_check_recording_rest(uint32_t length, size_t rest);
  * or a number too wide its first byte; of a number that is not whole the first byte
  * that is not there, head_len; and 18,016 where none is found. What stands behind the
  * first 18,016 bytes is not looked at: 22 of a stream that is cut stands at the file's
- * length, and 23 at 18,016 plus the stream's.
+ * length, and 23 at 18,016 plus the length that the head tells.
  */
 uint32_t duckhammock_find_recording_fault(const uint8_t *head, size_t head_len);
 

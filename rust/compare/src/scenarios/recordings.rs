@@ -85,7 +85,8 @@ fn written_and_run(duo: &mut Duo, random: &mut Random) {
     leave_a_draw(duo, random);
     read(duo, random, &file);
     let pace = random.pick(&[Pace::Bulk, Pace::Runs, Pace::Mixed]);
-    play(duo, random, &stream, if long { Pace::Bulk } else { pace });
+    let recorded = file.get(HEAD..).unwrap_or_default();
+    play(duo, random, recorded, if long { Pace::Bulk } else { pace });
 }
 
 /// A whole file, or its head and the count of what is behind it.
