@@ -12,7 +12,7 @@
  * bytes are: 0 where the call was accepted, a unit was shown or done or the limit
  * was reached, DUCKHAMMOCK_WAITING, or the number of a refusal; where several
  * apply, the first in the order that its comment gives them. (duckhammock_fresh
- * returns nothing.)
+ * returns nothing, and duckhammock_find_recording_fault a place in a file.)
  *
  * A refused or waiting call changes nothing: no state word, ring byte, XF word
  * or vertex byte, and nothing of what was lent for its values. A look or a take
@@ -50,6 +50,10 @@ extern "C" {
 #define DUCKHAMMOCK_PATCH_BYTES 2550
 /* The most units of one run; a higher limit counts as this. */
 #define DUCKHAMMOCK_MOST_UNITS 65535
+/* A recording is one file: the BP registers, the CP registers, the XF words and the
+ * stream's bytes, each after its count. All but the stream is its head. */
+#define DUCKHAMMOCK_RECORDING_HEAD_BYTES 18016
+#define DUCKHAMMOCK_LONGEST_STREAM 65535
 
 /*
  * The state's words. Later versions add words only at the end, and raise
@@ -133,6 +137,16 @@ enum duckhammock_answer {
     DUCKHAMMOCK_UNWRITABLE_COMMAND = 18,
     /* An attribute number above 20, or a vertex not of the layout's length. */
     DUCKHAMMOCK_NOT_OF_LAYOUT = 19,
+    /* A count of a recording is not its section's, or its stream is above 65,535
+     * bytes. */
+    DUCKHAMMOCK_WRONG_COUNT = 20,
+    /* A number of a recording is too wide for its register. */
+    DUCKHAMMOCK_NUMBER_TOO_WIDE = 21,
+    /* A recording is cut, perhaps within a number, or its stream is shorter than
+     * the stream's count. */
+    DUCKHAMMOCK_FILE_SHORT = 22,
+    /* Something follows the stream. */
+    DUCKHAMMOCK_FILE_LONG = 23,
     /* The next unit is not all there. */
     DUCKHAMMOCK_WAITING = 255
 };
@@ -213,6 +227,14 @@ enum duckhammock_report_word {
     DUCKHAMMOCK_REPORT_UNITS = 0,
     DUCKHAMMOCK_REPORT_LACKING = 1,
     DUCKHAMMOCK_REPORT_WORDS = 2
+};
+
+/* The words that tell where a recording's stream stands in its file: its first byte,
+ * and how many there are. */
+enum duckhammock_stream_word {
+    DUCKHAMMOCK_STREAM_PLACE = 0,
+    DUCKHAMMOCK_STREAM_LENGTH = 1,
+    DUCKHAMMOCK_STREAM_WORDS = 2
 };
 
 /* The attributes of a vertex, in their order. */
@@ -405,6 +427,78 @@ uint32_t duckhammock_write_patch(const uint32_t *masks, size_t masks_len,
                                  const uint32_t *numbers, size_t numbers_len,
                                  uint8_t *output, size_t output_len,
                                  uint32_t *written);
+
+/*
+ * Recordings. The file's sections stand in this order, each after its count: 256 BP
+ * registers; 60 CP registers, in the order of the state's words 11 to 70; 4,184 XF
+ * words; the stream's bytes, 0 to 65,535. Counts and numbers are 4 bytes, big-endian,
+ * and nothing follows. So the numbers stand in the first 18,016 bytes, the head, the
+ * stream's count in its last four, and the stream from byte 18,016 on.
+ *
+ * A BP register has 24 bits, an array base 26 and a stride 8; every other register and
+ * an XF word have 32 and are never too wide. A number that is not whole is no number:
+ * it gives 22, also where its first bytes are too wide or a wrong count already. A
+ * stream's count above 65,535 gives 20, whatever follows it.
+ */
+
+/*
+ * Reads a recording: 2, then 20 to 23 by the first place in the file. The state's
+ * words 11 to 326 become the file's CP and BP registers, words 7 to 10 become 0 (no
+ * draw is open), words 0 to 6 (window and control) stay, whatever they hold; xf becomes
+ * the file's XF words; and stream tells where the stream stands in the file: it is to
+ * be fed to an empty ring.
+ */
+uint32_t duckhammock_read_recording(uint32_t state[DUCKHAMMOCK_STATE_WORDS],
+                                    const uint8_t *file, size_t file_len,
+                                    uint32_t *xf, size_t xf_len,
+                                    uint32_t stream[DUCKHAMMOCK_STREAM_WORDS]);
+
+/*
+ * The same of a recording's head alone, for a caller who does not hold the whole file:
+ * 2, then 20 to 22. The head is the file's first 18,016 bytes, or fewer where the file
+ * is shorter; what stands behind them is not looked at. *length tells the stream's
+ * length by its count. To read a head and then to check the rest is to read the file,
+ * but that the state and xf have changed already where the rest is refused.
+ */
+uint32_t duckhammock_read_recording_head(uint32_t state[DUCKHAMMOCK_STATE_WORDS],
+                                         const uint8_t *head, size_t head_len,
+                                         uint32_t *xf, size_t xf_len,
+                                         uint32_t *length);
+
+/* Whether so many bytes behind the head are the stream that the head tells: 22 where
+ * they are fewer than length, 23 where they are more. */
+uint32_t duckhammock_check_recording_rest(uint32_t length, size_t rest);
+
+/*
+ * No refusal, but where the first fault of a recording's head stands: of a wrong count
+ * or a number too wide its first byte; of a number that is not whole the first byte
+ * that is not there, head_len; and 18,016 where none is found. What stands behind the
+ * first 18,016 bytes is not looked at: 22 of a stream that is cut stands at the file's
+ * length, and 23 at 18,016 plus the length that the head tells.
+ */
+uint32_t duckhammock_find_recording_fault(const uint8_t *head, size_t head_len);
+
+/*
+ * Writes a recording to the front of the output, and to *written how many bytes that
+ * were, 18,016 and the stream's: 1, 2, 20, 16. Of the state only words 11 to 326 are
+ * looked at, so that 1 is given for a BP register, an array base or a stride alone.
+ * What is written is accepted by duckhammock_read_recording and gives the same
+ * registers, XF words and stream; and an accepted file is just what is written for
+ * what it holds.
+ */
+uint32_t duckhammock_write_recording(const uint32_t state[DUCKHAMMOCK_STATE_WORDS],
+                                     const uint32_t *xf, size_t xf_len,
+                                     const uint8_t *stream, size_t stream_len,
+                                     uint8_t *output, size_t output_len,
+                                     uint32_t *written);
+
+/* Writes the head alone of the recording that duckhammock_write_recording writes for a
+ * stream of length bytes: 1, 2, 20, 16. *written is then 18,016. */
+uint32_t duckhammock_write_recording_head(const uint32_t state[DUCKHAMMOCK_STATE_WORDS],
+                                          const uint32_t *xf, size_t xf_len,
+                                          size_t length,
+                                          uint8_t *output, size_t output_len,
+                                          uint32_t *written);
 
 #ifdef __cplusplus
 }

@@ -2,8 +2,9 @@
  * Sets a window, feeds a few commands, looks at each unit and then takes it, and
  * decodes a position; loads a stream that is read piece by piece, each piece just
  * as long as the processor says is lacking; then checks, merges and writes two
- * patches of one BP register, feeds them, runs and reads the register back. Ends
- * with 0 only where all was as expected.
+ * patches of one BP register, feeds them, runs and reads the register back; and
+ * writes all registers and a stream as a recording, reads it back in two parts on a
+ * fresh machine and runs its stream. Ends with 0 only where all was as expected.
  */
 #include "duckhammock.h"
 
@@ -27,6 +28,9 @@ enum { XF_PLACE = 5, XF_WORD = 0x3F800000, STREAM_UNITS = 2 };
 enum { XF_LOAD_FEEDS = 3, STREAM_FEEDS = XF_LOAD_FEEDS + 1 };
 /* The commands and the vertex; the loads of two patches; those of BEFORE and of one. */
 enum { COMMAND_UNITS = 5, TWO_PATCHES_UNITS = 4, MERGED_UNITS = 3 };
+/* A recording's stream: the register becomes BEFORE again. A file that is cut. */
+enum { RECORDED_UNITS = 1, RECORDED_BYTES = 5, HEAD_BYTES = DUCKHAMMOCK_RECORDING_HEAD_BYTES };
+enum { CUT = HEAD_BYTES - 1 };
 
 typedef struct {
     uint32_t masks[DUCKHAMMOCK_PATCH_ENTRIES], numbers[DUCKHAMMOCK_PATCH_ENTRIES];
@@ -40,11 +44,13 @@ static const uint32_t commands[][DUCKHAMMOCK_COMMAND_WORDS] = {
 };
 static const uint8_t bytes_of_vertex[AXES] = { X, Y, Z };
 static const uint8_t stream[] = { 0x10, 0x00, 0x00, 0x00, XF_PLACE, 0x3F, 0x80, 0x00, 0x00, 0x00 };
+static const uint8_t recorded[RECORDED_BYTES] = { 0x61, REGISTER, 0x12, 0x34, 0x56 };
 static const patch first = { { [REGISTER] = FIRST_MASK }, { [REGISTER] = FIRST_NUMBER } };
 static const patch second = { { [REGISTER] = SECOND_MASK }, { [REGISTER] = SECOND_NUMBER } };
 
 static uint32_t state[DUCKHAMMOCK_STATE_WORDS], xf[DUCKHAMMOCK_XF_WORDS], written;
 static uint8_t ring[RING_BYTES], vertex[DUCKHAMMOCK_VERTEX_BYTES], output[DUCKHAMMOCK_PATCH_BYTES];
+static uint8_t file[HEAD_BYTES + RECORDED_BYTES];
 static patch merged;
 static bool wrong;
 #define LENT ring, sizeof ring, xf, DUCKHAMMOCK_XF_WORDS, vertex, sizeof vertex
@@ -141,19 +147,20 @@ static void load(const uint8_t *bytes, size_t length)
     printf("loaded: XF word %d holds %08" PRIX32 "\n", XF_PLACE, xf[XF_PLACE]);
 }
 
-/* Runs all that was fed; the register must then hold what the patches say. */
-static void run(uint32_t expected)
+/* Runs all that was fed, so many units; the register must then hold the number. */
+static void run(uint32_t units, uint32_t number)
 {
     uint32_t report[DUCKHAMMOCK_REPORT_WORDS];
     uint32_t answer = duckhammock_run(state, LENT, DUCKHAMMOCK_MOST_UNITS, report);
     expect("run", answer, DUCKHAMMOCK_WAITING);
-    expect("units", report[DUCKHAMMOCK_REPORT_UNITS], expected);
+    expect("units", report[DUCKHAMMOCK_REPORT_UNITS], units);
     printf("run: register %X holds %06" PRIX32 "\n", REGISTER, state[DUCKHAMMOCK_BP + REGISTER]);
-    expect("register", state[DUCKHAMMOCK_BP + REGISTER], AFTER);
+    expect("register", state[DUCKHAMMOCK_BP + REGISTER], number);
     expect("mask register", state[DUCKHAMMOCK_BP + MASK_REGISTER], EVERY_BIT);
 }
 
-int main(void)
+/* A fresh state with an empty ring that is read. */
+static void start(void)
 {
     duckhammock_fresh(state);
     write_word(DUCKHAMMOCK_OFFSET_START, RING_START);
@@ -162,6 +169,36 @@ int main(void)
     write_word(DUCKHAMMOCK_OFFSET_READ_POINTER, RING_START);
     done("control", duckhammock_write_register(state, DUCKHAMMOCK_OFFSET_CONTROL,
                                                DUCKHAMMOCK_CONTROL_READ_ENABLE));
+}
+
+/* All registers and XF words as they are, and the stream. */
+static void write_recording(void)
+{
+    done("write", duckhammock_write_recording(state, xf, DUCKHAMMOCK_XF_WORDS, recorded,
+                                              sizeof recorded, file, sizeof file, &written));
+    expect("written", written, sizeof file);
+    expect("fault", duckhammock_find_recording_fault(file, written), HEAD_BYTES);
+    expect("fault of a cut file", duckhammock_find_recording_fault(file, CUT), CUT);
+    printf("recorded, %" PRIu32 " bytes\n", written);
+}
+
+/* First the head, then what is behind it, as a caller does who holds a part at a time. */
+static void read_recording(void)
+{
+    uint32_t length = 0, answer;
+    answer = duckhammock_read_recording_head(state, file, CUT, xf, DUCKHAMMOCK_XF_WORDS, &length);
+    expect("cut file", answer, DUCKHAMMOCK_FILE_SHORT);
+    done("head", duckhammock_read_recording_head(state, file, HEAD_BYTES, xf,
+                                                 DUCKHAMMOCK_XF_WORDS, &length));
+    done("rest", duckhammock_check_recording_rest(length, written - HEAD_BYTES));
+    expect("register", state[DUCKHAMMOCK_BP + REGISTER], AFTER);
+    expect("XF word", xf[XF_PLACE], XF_WORD);
+    feed("a recording's stream", file + HEAD_BYTES, length);
+}
+
+int main(void)
+{
+    start();
     for (size_t at = FRONT; at < sizeof commands / sizeof *commands; at++)
         feed_command(commands[at]);
     feed("a vertex", bytes_of_vertex, sizeof bytes_of_vertex);
@@ -175,9 +212,14 @@ int main(void)
     expect("merged number", merged.numbers[REGISTER], MERGED_NUMBER);
     feed_patch("the first patch", &first);
     feed_patch("the second patch", &second);
-    run(TWO_PATCHES_UNITS);
+    run(TWO_PATCHES_UNITS, AFTER);
     feed_command(commands[FRONT]);
     feed_patch("both merged", &merged);
-    run(MERGED_UNITS);
+    run(MERGED_UNITS, AFTER);
+    write_recording();
+    start();
+    xf[XF_PLACE] = 0;
+    read_recording();
+    run(RECORDED_UNITS, BEFORE);
     return wrong ? EXIT_FAILURE : EXIT_SUCCESS;
 }

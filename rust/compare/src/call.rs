@@ -3,9 +3,10 @@
 use crate::side::Side;
 use crate::world::{Lent, World};
 use model::words::{
-    CommandWords, FormatWords, ReportWords, UnitWords, ValueWords, VertexWords, DONE, WAITING,
+    CommandWords, FormatWords, ReportWords, StateWords, StreamWords, UnitWords, ValueWords,
+    VertexWords, DONE, WAITING,
 };
-use model::ATTRIBUTES;
+use model::{ATTRIBUTES, RECORDING_HEAD_BYTES};
 
 /// The masks and numbers of a patch, of any lengths.
 #[derive(Clone, Debug, PartialEq, Eq)]
@@ -60,9 +61,15 @@ pub enum Kind {
     CheckPatch,
     MergePatches,
     WritePatch,
+    ReadRecording,
+    ReadRecordingHead,
+    CheckRecordingRest,
+    FindRecordingFault,
+    WriteRecording,
+    WriteRecordingHead,
 }
 
-pub const KINDS: [Kind; 15] = [
+pub const KINDS: [Kind; 21] = [
     Kind::Fresh,
     Kind::ReadRegister,
     Kind::WriteRegister,
@@ -78,6 +85,12 @@ pub const KINDS: [Kind; 15] = [
     Kind::CheckPatch,
     Kind::MergePatches,
     Kind::WritePatch,
+    Kind::ReadRecording,
+    Kind::ReadRecordingHead,
+    Kind::CheckRecordingRest,
+    Kind::FindRecordingFault,
+    Kind::WriteRecording,
+    Kind::WriteRecordingHead,
 ];
 
 impl Kind {
@@ -98,10 +111,17 @@ impl Kind {
             Kind::CheckPatch => "check_patch",
             Kind::MergePatches => "merge_patches",
             Kind::WritePatch => "write_patch",
+            Kind::ReadRecording => "read_recording",
+            Kind::ReadRecordingHead => "read_recording_head",
+            Kind::CheckRecordingRest => "check_recording_rest",
+            Kind::FindRecordingFault => "find_recording_fault",
+            Kind::WriteRecording => "write_recording",
+            Kind::WriteRecordingHead => "write_recording_head",
         }
     }
 
-    /// The answers that document 01 lets the call give.
+    /// The answers that documents 01 and 02 let the call give. The byte that a
+    /// fault is found at counts as 0.
     pub fn answers(self) -> &'static [u32] {
         match self {
             Kind::Fresh => &[DONE],
@@ -114,6 +134,19 @@ impl Kind {
             Kind::WriteCommand => &[DONE, 7, 8, 16, 18],
             Kind::CheckPatch | Kind::MergePatches => &[DONE, 12, 13, 14, 15],
             Kind::WritePatch => &[DONE, 12, 13, 14, 15, 16],
+            Kind::ReadRecording => &[DONE, 2, 20, 21, 22, 23],
+            Kind::ReadRecordingHead => &[DONE, 2, 20, 21, 22],
+            Kind::CheckRecordingRest => &[DONE, 22, 23],
+            Kind::FindRecordingFault => &[DONE],
+            Kind::WriteRecording | Kind::WriteRecordingHead => &[DONE, 1, 2, 16, 20],
+        }
+    }
+
+    /// Whether the call may return the number.
+    pub fn may_return(self, number: u32) -> bool {
+        match self {
+            Kind::FindRecordingFault => number as usize <= RECORDING_HEAD_BYTES,
+            _ => self.answers().contains(&number),
         }
     }
 }
@@ -187,6 +220,31 @@ pub enum Call {
         output: Vec<u8>,
         written: u32,
     },
+    ReadRecording {
+        file: Vec<u8>,
+        stream: StreamWords,
+    },
+    ReadRecordingHead {
+        head: Vec<u8>,
+        length: u32,
+    },
+    CheckRecordingRest {
+        length: u32,
+        rest: usize,
+    },
+    FindRecordingFault {
+        head: Vec<u8>,
+    },
+    WriteRecording {
+        stream: Vec<u8>,
+        output: Vec<u8>,
+        written: u32,
+    },
+    WriteRecordingHead {
+        length: usize,
+        output: Vec<u8>,
+        written: u32,
+    },
 }
 
 impl Call {
@@ -207,6 +265,12 @@ impl Call {
             Call::CheckPatch { .. } => Kind::CheckPatch,
             Call::MergePatches { .. } => Kind::MergePatches,
             Call::WritePatch { .. } => Kind::WritePatch,
+            Call::ReadRecording { .. } => Kind::ReadRecording,
+            Call::ReadRecordingHead { .. } => Kind::ReadRecordingHead,
+            Call::CheckRecordingRest { .. } => Kind::CheckRecordingRest,
+            Call::FindRecordingFault { .. } => Kind::FindRecordingFault,
+            Call::WriteRecording { .. } => Kind::WriteRecording,
+            Call::WriteRecordingHead { .. } => Kind::WriteRecordingHead,
         }
     }
 
@@ -258,6 +322,8 @@ impl Call {
             Call::CheckPatch { .. } | Call::MergePatches { .. } | Call::WritePatch { .. } => {
                 self.make_with_patches(side)
             }
+            Call::CheckRecordingRest { length, rest } => side.check_recording_rest(*length, *rest),
+            Call::FindRecordingFault { head } => side.find_recording_fault(head),
             _ => self.make_with_state(side, world, lent),
         }
     }
@@ -303,6 +369,32 @@ impl Call {
             Call::Look { unit, lacking } => side.look(state, ring, xf, vertex, unit, lacking),
             Call::Take { unit, lacking } => side.take(state, ring, xf, vertex, unit, lacking),
             Call::Run { limit, report } => side.run(state, ring, xf, vertex, *limit, report),
+            _ => self.make_with_registers(side, state, xf),
+        }
+    }
+
+    /// Recordings are read to, and written from, the state and the XF words alone.
+    fn make_with_registers(
+        &mut self,
+        side: &dyn Side,
+        state: &mut StateWords,
+        xf: &mut [u32],
+    ) -> u32 {
+        match self {
+            Call::ReadRecording { file, stream } => side.read_recording(state, file, xf, stream),
+            Call::ReadRecordingHead { head, length } => {
+                side.read_recording_head(state, head, xf, length)
+            }
+            Call::WriteRecording {
+                stream,
+                output,
+                written,
+            } => side.write_recording(state, xf, stream, output, written),
+            Call::WriteRecordingHead {
+                length,
+                output,
+                written,
+            } => side.write_recording_head(state, xf, *length, output, written),
             _ => unreachable!("a call with the state"),
         }
     }

@@ -4,6 +4,7 @@
 use crate::call::{Call, Kind, Patch, Told};
 use crate::world::{word, Lent, World};
 use model::words::{DONE, WAITING};
+use model::{LONGEST_STREAM, RECORDING_HEAD_BYTES};
 use std::fmt::Write;
 
 /// A call after both sides made it.
@@ -148,6 +149,45 @@ fn written_parts(call: &Call) -> Vec<Part> {
             parts.push(("written", vec![*written]));
             parts
         }
+        _ => recording_parts(call),
+    }
+}
+
+/// A length's high and low half.
+fn halves(length: usize) -> Vec<u32> {
+    vec![(length as u64 >> 32) as u32, length as u32]
+}
+
+fn recording_parts(call: &Call) -> Vec<Part> {
+    match call {
+        Call::ReadRecording { file, stream } => {
+            vec![("file", widen(file)), ("stream", stream.to_vec())]
+        }
+        Call::ReadRecordingHead { head, length } => {
+            vec![("head", widen(head)), ("length", vec![*length])]
+        }
+        Call::CheckRecordingRest { length, rest } => {
+            vec![("length", vec![*length]), ("rest", halves(*rest))]
+        }
+        Call::FindRecordingFault { head } => vec![("head", widen(head))],
+        Call::WriteRecording {
+            stream,
+            output,
+            written,
+        } => vec![
+            ("stream", widen(stream)),
+            ("output", widen(output)),
+            ("written", vec![*written]),
+        ],
+        Call::WriteRecordingHead {
+            length,
+            output,
+            written,
+        } => vec![
+            ("length", halves(*length)),
+            ("output", widen(output)),
+            ("written", vec![*written]),
+        ],
         _ => vec![],
     }
 }
@@ -214,10 +254,11 @@ impl Made<'_> {
     }
 
     /// What both sides did alike against the header: an answer that the call
-    /// cannot give, bytes lacking that cannot be, or something changed that stays.
+    /// cannot give, bytes lacking or a recording's length that cannot be, or
+    /// something changed that stays.
     fn breaks_the_header(&self) -> Option<(String, [String; 2])> {
         let answer = self.answers[0];
-        if !self.call.kind().answers().contains(&answer) {
+        if !self.call.kind().may_return(answer) {
             let what = "nothing, but the call cannot give this answer".to_string();
             return Some((what, [answer, answer].map(|a| a.to_string())));
         }
@@ -232,6 +273,13 @@ impl Made<'_> {
                 let what = format!("nothing, but the bytes lacking are not 1 to the room, {room}");
                 return Some((what, [lacking, lacking].map(|n| n.to_string())));
             }
+        }
+        if let Some(told) = self.wrong_length() {
+            let what = "nothing, but both told a length that cannot be".to_string();
+            return Some((what, [told, told].map(|n| n.to_string())));
+        }
+        if let Some(found) = self.wrongly_loaded() {
+            return Some(found);
         }
         let part = self.changed_part()?;
         let of = |world| -> Vec<Part> {
@@ -258,6 +306,48 @@ impl Made<'_> {
             Call::Run { report, .. } => Some(report[1]),
             _ => None,
         }
+    }
+
+    /// The place or the length of an accepted recording, where it is not the one that
+    /// the lengths of what was handed in give, or of a head not within the limit.
+    fn wrong_length(&self) -> Option<u32> {
+        let differing = |told: u32, right: usize| (told as usize != right).then_some(told);
+        match &self.calls[0] {
+            _ if self.answers[0] != DONE => None,
+            Call::ReadRecording {
+                file,
+                stream: [place, length],
+            } => differing(*place, RECORDING_HEAD_BYTES)
+                .or_else(|| differing(*length, file.len().wrapping_sub(RECORDING_HEAD_BYTES))),
+            Call::ReadRecordingHead { length, .. } => {
+                (*length as usize > LONGEST_STREAM).then_some(*length)
+            }
+            Call::WriteRecording {
+                stream, written, ..
+            } => differing(*written, RECORDING_HEAD_BYTES + stream.len()),
+            Call::WriteRecordingHead { written, .. } => differing(*written, RECORDING_HEAD_BYTES),
+            _ => None,
+        }
+    }
+
+    /// Whether a recording was read and accepted.
+    fn loads(&self) -> bool {
+        let kind = self.call.kind();
+        matches!(kind, Kind::ReadRecording | Kind::ReadRecordingHead) && self.answers[0] == DONE
+    }
+
+    /// A word that is not as a recording that was read leaves it: the window's and
+    /// the control word stay, and those of the draw are 0.
+    fn wrongly_loaded(&self) -> Option<(String, [String; 2])> {
+        if !self.loads() {
+            return None;
+        }
+        let of = |world: &World| vec![("state", world.state[..=word::LEFT].to_vec())];
+        let mut rightful = of(self.before);
+        rightful[0].1[word::DRAW_OPEN..].fill(0);
+        let (place, [right, found]) = first(&rightful, &of(&self.worlds[0]))?;
+        let what = format!("nothing, but a recording that is read leaves {right} in {place}");
+        Some((what, [found.clone(), found]))
     }
 
     /// The call as it may be after its answer: a refused one as it was, a look or
@@ -313,13 +403,14 @@ impl Made<'_> {
         };
         let takes = matches!(kind, Kind::Take | Kind::Run) && !still;
         let feeds = kind == Kind::Feed && !still;
+        let loads = self.loads();
         if before.ring != after.ring && !feeds {
             Some("ring")
-        } else if before.xf != after.xf && !takes {
+        } else if before.xf != after.xf && !takes && !loads {
             Some("XF words")
         } else if before.vertex != after.vertex && !takes {
             Some("vertex buffer")
-        } else if !takes && kind != Kind::Fresh && !self.state_stays(still) {
+        } else if !takes && !loads && kind != Kind::Fresh && !self.state_stays(still) {
             Some("state")
         } else {
             None
@@ -355,6 +446,10 @@ impl Made<'_> {
                 | Kind::Look
                 | Kind::Take
                 | Kind::Run
+                | Kind::ReadRecording
+                | Kind::ReadRecordingHead
+                | Kind::WriteRecording
+                | Kind::WriteRecordingHead
         ) {
             self.tell_world(&mut text);
         }
@@ -417,6 +512,12 @@ fn take_values(call: &mut Call, after: &Call) {
         (Call::MergePatches { result, .. }, Call::MergePatches { result: told, .. }) => {
             result.clone_from(told);
         }
+        (Call::ReadRecording { stream, .. }, Call::ReadRecording { stream: told, .. }) => {
+            *stream = *told;
+        }
+        (Call::ReadRecordingHead { length, .. }, Call::ReadRecordingHead { length: told, .. }) => {
+            *length = *told;
+        }
         (call, after) => take_written(call, after),
     }
 }
@@ -438,6 +539,26 @@ fn take_written(call: &mut Call, after: &Call) {
             output, written, ..
         },
         Call::WritePatch {
+            output: o,
+            written: w,
+            ..
+        },
+    )
+    | (
+        Call::WriteRecording {
+            output, written, ..
+        },
+        Call::WriteRecording {
+            output: o,
+            written: w,
+            ..
+        },
+    )
+    | (
+        Call::WriteRecordingHead {
+            output, written, ..
+        },
+        Call::WriteRecordingHead {
             output: o,
             written: w,
             ..

@@ -8,7 +8,7 @@ use crate::side::Side;
 use crate::tally::Tally;
 use crate::world::{Lent, World, USUAL};
 use model::words::{
-    CommandWords, FormatWords, ReportWords, UnitWords, ValueWords, VertexWords, DONE,
+    CommandWords, FormatWords, ReportWords, StreamWords, UnitWords, ValueWords, VertexWords, DONE,
 };
 use model::ATTRIBUTES;
 
@@ -353,6 +353,74 @@ impl Duo {
             (
                 DONE,
                 Call::WritePatch {
+                    output, written, ..
+                },
+            ) => (DONE, front(output, written)),
+            (answer, _) => (answer, Vec::new()),
+        }
+    }
+}
+
+/// The calls of recordings.
+impl Duo {
+    /// The answer, and where the stream stands; what is not told is chance.
+    pub fn read_recording(&mut self, file: &[u8]) -> (u32, StreamWords) {
+        let stream = self.garbage.array();
+        let file = file.to_vec();
+        match self.call(Call::ReadRecording { file, stream }) {
+            (answer, Call::ReadRecording { stream, .. }) => (answer, stream),
+            (answer, _) => (answer, stream),
+        }
+    }
+
+    /// The answer, and the stream's length; what is not told is chance.
+    pub fn read_recording_head(&mut self, head: &[u8]) -> (u32, u32) {
+        let length = self.garbage.u32();
+        let head = head.to_vec();
+        match self.call(Call::ReadRecordingHead { head, length }) {
+            (answer, Call::ReadRecordingHead { length, .. }) => (answer, length),
+            (answer, _) => (answer, length),
+        }
+    }
+
+    pub fn check_recording_rest(&mut self, length: u32, rest: usize) -> u32 {
+        self.call(Call::CheckRecordingRest { length, rest }).0
+    }
+
+    pub fn find_recording_fault(&mut self, head: &[u8]) -> u32 {
+        let head = head.to_vec();
+        self.call(Call::FindRecordingFault { head }).0
+    }
+
+    /// The answer, and the file that was written; none where it is refused.
+    pub fn write_recording(&mut self, stream: &[u8], output: usize) -> (u32, Vec<u8>) {
+        let call = Call::WriteRecording {
+            stream: stream.to_vec(),
+            output: self.garbage.bytes(output),
+            written: self.garbage.u32(),
+        };
+        match self.call(call) {
+            (
+                DONE,
+                Call::WriteRecording {
+                    output, written, ..
+                },
+            ) => (DONE, front(output, written)),
+            (answer, _) => (answer, Vec::new()),
+        }
+    }
+
+    /// The same of the head alone.
+    pub fn write_recording_head(&mut self, length: usize, output: usize) -> (u32, Vec<u8>) {
+        let call = Call::WriteRecordingHead {
+            length,
+            output: self.garbage.bytes(output),
+            written: self.garbage.u32(),
+        };
+        match self.call(call) {
+            (
+                DONE,
+                Call::WriteRecordingHead {
                     output, written, ..
                 },
             ) => (DONE, front(output, written)),

@@ -9,6 +9,7 @@ mod difference;
 pub mod duo;
 mod formats;
 pub mod random;
+pub mod recording;
 pub mod scenarios;
 pub mod side;
 mod stream;

@@ -1,7 +1,8 @@
-//! What is compared: fifteen functions over words and slices.
+//! What is compared: twenty-one functions over words and slices.
 
 use model::words::{
-    self, CommandWords, FormatWords, ReportWords, StateWords, UnitWords, ValueWords, VertexWords,
+    self, CommandWords, FormatWords, ReportWords, StateWords, StreamWords, UnitWords, ValueWords,
+    VertexWords,
 };
 use model::ATTRIBUTES;
 
@@ -85,6 +86,40 @@ pub trait Side {
         &self,
         masks: &[u32],
         numbers: &[u32],
+        output: &mut [u8],
+        written: &mut u32,
+    ) -> u32;
+    fn read_recording(
+        &self,
+        state: &mut StateWords,
+        file: &[u8],
+        xf: &mut [u32],
+        stream: &mut StreamWords,
+    ) -> u32;
+    fn read_recording_head(
+        &self,
+        state: &mut StateWords,
+        head: &[u8],
+        xf: &mut [u32],
+        length: &mut u32,
+    ) -> u32;
+    fn check_recording_rest(&self, length: u32, rest: usize) -> u32;
+    fn find_recording_fault(&self, head: &[u8]) -> u32;
+    /// State and XF words, which must not change, are lent so that a side could
+    /// change them; so for the head too.
+    fn write_recording(
+        &self,
+        state: &mut StateWords,
+        xf: &mut [u32],
+        stream: &[u8],
+        output: &mut [u8],
+        written: &mut u32,
+    ) -> u32;
+    fn write_recording_head(
+        &self,
+        state: &mut StateWords,
+        xf: &mut [u32],
+        length: usize,
         output: &mut [u8],
         written: &mut u32,
     ) -> u32;
@@ -229,6 +264,56 @@ macro_rules! side_of {
                 written: &mut u32,
             ) -> u32 {
                 $functions::write_patch(masks, numbers, output, written)
+            }
+
+            fn read_recording(
+                &self,
+                state: &mut StateWords,
+                file: &[u8],
+                xf: &mut [u32],
+                stream: &mut StreamWords,
+            ) -> u32 {
+                $functions::read_recording(state, file, xf, stream)
+            }
+
+            fn read_recording_head(
+                &self,
+                state: &mut StateWords,
+                head: &[u8],
+                xf: &mut [u32],
+                length: &mut u32,
+            ) -> u32 {
+                $functions::read_recording_head(state, head, xf, length)
+            }
+
+            fn check_recording_rest(&self, length: u32, rest: usize) -> u32 {
+                $functions::check_recording_rest(length, rest)
+            }
+
+            fn find_recording_fault(&self, head: &[u8]) -> u32 {
+                $functions::find_recording_fault(head)
+            }
+
+            fn write_recording(
+                &self,
+                state: &mut StateWords,
+                xf: &mut [u32],
+                stream: &[u8],
+                output: &mut [u8],
+                written: &mut u32,
+            ) -> u32 {
+                $functions::write_recording(state, xf, stream, output, written)
+            }
+
+            fn write_recording_head(
+                &self,
+                state: &mut StateWords,
+                xf: &mut [u32],
+                length: usize,
+                output: &mut [u8],
+                written: &mut u32,
+            ) -> u32 {
+                $functions::write_recording_head(state, xf, length, output, written)
             }
         }
     };

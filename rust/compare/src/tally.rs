@@ -2,7 +2,9 @@
 
 use crate::call::{Call, Kind, KINDS};
 use crate::course::{Mark, Run, CASES, LIES, MOST_ZEROS, WORDS};
+use crate::recording::{found_at, Found, NUMBER_BYTES, SECTIONS};
 use model::words::{FormatWords, DONE, VALUE_WORDS, WAITING};
+use model::RECORDING_HEAD_BYTES;
 use std::collections::BTreeMap;
 
 /// What a unit can be.
@@ -19,6 +21,7 @@ const OLD_METRICS: u32 = 0x68;
 const MEET_OLD_METRICS: [Kind; 4] = [Kind::Look, Kind::Take, Kind::Run, Kind::WriteCommand];
 const UNKNOWN_OPCODE: u32 = 6;
 const UNWRITABLE: u32 = 18;
+const FILE_SHORT: u32 = 22;
 
 const NORMAL: u32 = 10;
 /// The formats of a normal, by number.
@@ -60,6 +63,8 @@ pub struct Tally {
     run_units: u64,
     /// What runs went through.
     marks: Counts<Mark>,
+    /// What was found of recordings.
+    found: Counts<Found>,
 }
 
 fn add<K: Ord>(counts: &mut Counts<K>, key: K) {
@@ -76,7 +81,11 @@ impl Tally {
     /// pointer is at then.
     pub fn count(&mut self, call: &Call, answer: u32, next: Option<u8>) {
         self.calls += 1;
-        add(&mut self.answers, (call.kind(), answer));
+        match call {
+            // A byte of the file, and no answer.
+            Call::FindRecordingFault { .. } => add(&mut self.answers, (call.kind(), DONE)),
+            _ => add(&mut self.answers, (call.kind(), answer)),
+        }
         match call {
             Call::Look { .. } | Call::Take { .. } | Call::Run { .. } => {
                 self.count_units(call, answer, next);
@@ -93,6 +102,14 @@ impl Tally {
                 (OLD_METRICS, UNWRITABLE) => add(&mut self.old_metrics, Kind::WriteCommand),
                 _ => {}
             },
+            Call::FindRecordingFault { head } => {
+                add(&mut self.found, found_at(head.len(), answer as usize));
+            }
+            Call::ReadRecording { file, .. }
+                if answer == FILE_SHORT && file.len() >= RECORDING_HEAD_BYTES =>
+            {
+                add(&mut self.found, Found::StreamCut);
+            }
             _ => {}
         }
         if answer == DONE {
@@ -155,12 +172,16 @@ impl Tally {
         self.answers.range(range).map(|(_, count)| count).sum()
     }
 
-    /// All that was not reached: of the answers, and what no run went through.
+    /// All that was not reached: of the answers, what no run went through, and what
+    /// was found of no recording.
     pub fn unreached(&self) -> Vec<String> {
         let mut unreached = self.unreached_answers();
         let mut marks = Mark::all();
         marks.retain(|mark| !self.marks.contains_key(mark));
         unreached.extend(marks.iter().map(|mark| format!("a run: {}", mark.told())));
+        let mut found = Found::all();
+        found.retain(|found| !self.found.contains_key(found));
+        unreached.extend(found.into_iter().map(Found::told));
         unreached
     }
 
@@ -241,7 +262,7 @@ impl Tally {
                 .range(range)
                 .map(|(&(_, answer), count)| format!("  {}:{count}", told(answer)))
                 .collect();
-            println!("  {:<15}{:>9} {answers}", kind.name(), self.of_kind(kind));
+            println!("  {:<20}{:>9} {answers}", kind.name(), self.of_kind(kind));
         }
         println!("units shown by looks, by kind:{}", list(&self.shown));
         println!("units done by takes, by kind:{}", list(&self.units));
@@ -266,6 +287,21 @@ impl Tally {
             self.lacking.len()
         );
         self.print_marks();
+        self.print_found();
+    }
+
+    fn print_found(&self) {
+        let of = |found: Found| times(&self.found, &found);
+        let (good, cut) = (of(Found::Nothing), of(Found::StreamCut));
+        println!("recordings with a good head: {good}; cut in the stream: {cut}");
+        println!("faults of heads (wrong; cut after 0, 1, 2, 3 bytes of a number):");
+        for (at, section) in SECTIONS.iter().enumerate() {
+            let cuts: Vec<String> = (0..NUMBER_BYTES)
+                .map(|bytes| of(Found::Cut(at, bytes)).to_string())
+                .collect();
+            let wrong = of(Found::Wrong(at));
+            println!("  {:<23}{wrong:>6};  {}", section.name, cuts.join(", "));
+        }
     }
 
     fn print_marks(&self) {

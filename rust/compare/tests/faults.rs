@@ -76,7 +76,8 @@ fn every_fault_is_found_on_the_other_side() {
 
 /// Those of the faults that the header rules out whatever the rules are: a refused
 /// call that changes something, a call that changes what it must not, bytes lacking
-/// that cannot be, a look and a take that do not tell the same.
+/// that cannot be, a look and a take that do not tell the same, a length of a recording
+/// that cannot be.
 const RULED_OUT: &[Fault] = &[
     Fault::ValueZeroed,
     Fault::UnitZeroed,
@@ -122,6 +123,33 @@ const RULED_OUT: &[Fault] = &[
     Fault::LookUnitZeroed,
     Fault::LookLackingZeroed,
     Fault::TakeNamesAnother,
+    Fault::ReadingTailPassed,
+    Fault::ReadingLeavesTheDraw,
+    Fault::ReadingLeavesStaleWords,
+    Fault::ReadingFreshWindow,
+    Fault::ReadingFreshControl,
+    Fault::ReadingMasksControl,
+    Fault::ReadingTellsPlace0,
+    Fault::ReadingTellsTheFile,
+    Fault::ReadingZeroesStream,
+    Fault::ReadingOnePass,
+    Fault::ReadingStoresRegisters,
+    Fault::ReadingHeadFirst,
+    Fault::HeadTestsTheRest,
+    Fault::HeadOfJustItsBytes,
+    Fault::HeadLeavesTheDraw,
+    Fault::HeadMasksControl,
+    Fault::HeadZeroesLength,
+    Fault::RestTestsTheCount,
+    Fault::FindingTheLength,
+    Fault::WritingTailCleared,
+    Fault::WritingHeadBefore16,
+    Fault::WritingZeroesOutput,
+    Fault::WritingZeroesWritten,
+    Fault::WritingClosesTheDraw,
+    Fault::WritingMasksTheState,
+    Fault::WritingClearsXfWords,
+    Fault::HeadWritingTellsTheFile,
 ];
 
 /// They are found where both sides have the same.
@@ -172,6 +200,36 @@ fn a_take_unlike_its_look_is_told() {
         "faulty: 5",
     ] {
         assert!(told.contains(part), "{part} in {told}");
+    }
+}
+
+/// So is what a recording leaves or tells that cannot be, on both sides alike.
+#[test]
+fn a_recording_that_is_read_wrongly_is_told() {
+    let cases = [
+        (
+            Fault::ReadingFreshControl,
+            "differs first: nothing, but a recording that is read leaves ",
+            " in state, place 6\n    faulty: 10",
+        ),
+        (
+            Fault::ReadingTellsPlace0,
+            "differs first: nothing, but both told a length that cannot be",
+            "\n    faulty: 0",
+        ),
+        (
+            Fault::ReadingStoresRegisters,
+            "differs first: nothing, but both changed state, place ",
+            "\n  answers 2",
+        ),
+    ];
+    for (fault, what, values) in cases {
+        let mut duo = Duo::new(Box::new(Faulty(fault)), Box::new(Faulty(fault)));
+        scenarios::compare(&mut duo, SEED, CALLS);
+        let told = duo.fault().expect("a difference");
+        for part in ["\", read_recording:", "\n    file ", what, values] {
+            assert!(told.contains(part), "{part} in {told}");
+        }
     }
 }
 

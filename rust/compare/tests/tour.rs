@@ -1,5 +1,5 @@
 //! Every call, accepted and refused, of the proved library and of the twin. The
-//! answers that are expected come from document 01, from document 02's L2 and L6,
+//! answers that are expected come from document 01, from document 02's L1, L2 and L6,
 //! which stand where the two differ, and from `include/duckhammock.h`. That a
 //! refused call and a look change nothing, that only a waiting look or take tells
 //! the bytes lacking, and that a take tells what a look right before it told, is
@@ -11,6 +11,9 @@ use compare::duo::Duo;
 use compare::side::{Proved, Twin};
 use compare::world::{word, Lent, USUAL};
 use model::words::{CommandWords, FormatWords, UnitWords, DONE, WAITING};
+
+/// A recording up to its stream.
+const HEAD: usize = 18_016;
 
 /// Both sides, held to what is expected.
 struct Tour(Duo);
@@ -186,6 +189,67 @@ impl Tour {
         assert_eq!(answers, [refusal; 4]);
     }
 
+    /// A recording of the stream is written, and so is its head; the file.
+    #[track_caller]
+    fn records(&mut self, stream: &[u8], output: usize) -> Vec<u8> {
+        let (answer, file) = self.0.write_recording(stream, output);
+        let (of_head, head) = self.0.write_recording_head(stream.len(), output);
+        self.same();
+        assert_eq!((answer, of_head), (DONE, DONE));
+        assert_eq!(file.len(), HEAD + stream.len());
+        assert!(file[..HEAD] == head && file[HEAD..] == *stream);
+        file
+    }
+
+    #[track_caller]
+    fn recording_refused(&mut self, stream: usize, output: usize, refusal: u32) {
+        let (answer, _) = self.0.write_recording(&vec![0x48; stream], output);
+        self.same();
+        assert_eq!(answer, refusal);
+    }
+
+    #[track_caller]
+    fn head_refused(&mut self, length: usize, output: usize, refusal: u32) {
+        let (answer, _) = self.0.write_recording_head(length, output);
+        self.same();
+        assert_eq!(answer, refusal);
+    }
+
+    /// The file is read, whole and in two parts.
+    #[track_caller]
+    fn loads(&mut self, file: &[u8]) {
+        let length = (file.len() - HEAD) as u32;
+        let in_parts = self.0.read_recording_head(&file[..HEAD]);
+        let rest = self.0.check_recording_rest(length, file.len() - HEAD);
+        let whole = self.0.read_recording(file);
+        let fault = self.0.find_recording_fault(file);
+        self.same();
+        assert_eq!((in_parts, rest), ((DONE, length), DONE));
+        assert_eq!((whole, fault), ((DONE, [18_016, length]), 18_016));
+    }
+
+    /// The head is refused, and its fault stands at a byte.
+    #[track_caller]
+    fn not_loaded(&mut self, file: &[u8], refusal: u32, byte: u32) {
+        let (whole, _) = self.0.read_recording(file);
+        let (head, _) = self.0.read_recording_head(file);
+        let fault = self.0.find_recording_fault(file);
+        self.same();
+        assert_eq!((whole, head, fault), (refusal, refusal, byte));
+    }
+
+    /// The head is read; the whole file is refused for what is behind it.
+    #[track_caller]
+    fn rest_not_loaded(&mut self, file: &[u8], refusal: u32) {
+        let (whole, _) = self.0.read_recording(file);
+        let (head, length) = self.0.read_recording_head(file);
+        let rest = self.0.check_recording_rest(length, file.len() - HEAD);
+        let fault = self.0.find_recording_fault(file);
+        self.same();
+        assert_eq!((whole, head, rest), (refusal, DONE, refusal));
+        assert_eq!(fault, 18_016);
+    }
+
     #[track_caller]
     fn holds(&self, index: usize, value: u32) {
         assert_eq!(self.0.world().state[index], value, "state word {index}");
@@ -234,6 +298,10 @@ fn every_call_is_answered_as_the_papers_say() {
     patches(&mut tour);
     patches_fed(&mut tour);
     refused_patches(&mut tour);
+    recordings(&mut tour);
+    recordings_run(&mut tour);
+    refused_recordings(&mut tour);
+    refused_writings(&mut tour);
     assert_eq!(tour.0.tally.unreached_answers(), Vec::<String>::new());
 }
 
@@ -972,4 +1040,170 @@ fn refused_patches(tour: &mut Tour) {
     assert_eq!(tour.0.merge_patches(&outside, &wide, 256, 256).0, 15);
     assert_eq!(tour.0.write_patch(&wide, 0).0, 14);
     tour.same();
+}
+
+/// The file with one number changed.
+fn with(file: &[u8], place: usize, number: u32) -> Vec<u8> {
+    let mut changed = file.to_vec();
+    changed[place..place + 4].copy_from_slice(&number.to_be_bytes());
+    changed
+}
+
+/// Document 02's L1: where the numbers stand in the file, worked out by hand.
+fn recordings(tour: &mut Tour) {
+    bench(tour);
+    for (index, value) in [
+        (word::BP, 0x01_0203),
+        (word::BP + 0xFF, 0xFF_FFFF),
+        (11, 0x3333_3333),
+        (word::VAT + 3 * 7 + 2, 0x9797_9797),
+        (word::BASES, 0x3FF_FFFF),
+        (word::STRIDES + 15, 0xFF),
+    ] {
+        tour.0.poke(index, value);
+    }
+    let file = tour.records(&[0x61, 0x41], HEAD + 2);
+    for (place, bytes) in [
+        (0, [0, 0, 1, 0]),
+        (4, [0, 1, 2, 3]),
+        (1020, [0, 0xFF, 0xFF, 0xFF]),
+        (1024, [0, 0xFF, 0xFF, 0xFF]),
+        (1028, [0, 0, 0, 60]),
+        (1032, [0x33; 4]),
+        (1040, [0, 0, 0x22, 0]),
+        (1140, [0x97; 4]),
+        (1144, [3, 0xFF, 0xFF, 0xFF]),
+        (1268, [0, 0, 0, 0xFF]),
+        (1272, [0, 0, 0x10, 0x58]),
+        (18_012, [0, 0, 0, 2]),
+    ] {
+        assert_eq!(file[place..place + 4], bytes, "byte {place}");
+    }
+    let xf = tour.0.world().xf[4183].to_be_bytes();
+    assert_eq!(file[18_008..18_012], xf);
+    // Into a longer output, and with the longest stream.
+    assert!(tour.records(&[0x61, 0x41], HEAD + 99) == file);
+    let longest = tour.records(&[0; 65_535], HEAD + 65_535);
+    tour.loads(&longest);
+    tour.loads(&file);
+    tour.loads(&with(&file, 4 + 4 * 0xFE, 0x12_3456));
+    tour.holds(word::BP + 0xFE, 0x12_3456);
+}
+
+/// "A loaded recording starts with no draw open, its stream fed to an empty ring with
+/// pointers as the caller sets them."
+fn recordings_run(tour: &mut Tour) {
+    bench(tour);
+    // A position of two bytes.
+    tour.0.poke(word::VCD_0, 0x200);
+    tour.0.poke(word::BP + 0x41, 0xABC_DEF);
+    tour.0.poke(word::BP + 0xFE, 0x00_00FF);
+    let file = tour.records(&[0x61, 0x41, 0, 0, 5, 0x80, 0, 1, 1, 2], HEAD + 10);
+    // Another machine with a draw open and its window and control word as they are.
+    bench(tour);
+    tour.0.poke(word::VCD_0, 0x200);
+    tour.feeds(&[0x90, 0, 9, 1, 2], DONE);
+    tour.runs(2, DONE, [2, 0]);
+    tour.holds_draw([1, 2, 0, 8]);
+    for (index, value) in [
+        (word::HIGH_MARK, 0x80),
+        (word::CONTROL, 0x21),
+        (word::VCD_0, 0),
+    ] {
+        tour.0.poke(index, value);
+    }
+    let window = tour.0.world().state[..7].to_vec();
+    tour.loads(&file);
+    tour.holds_draw([0; 4]);
+    assert_eq!(tour.0.world().state[..7], window);
+    tour.holds(word::BP + 0x41, 0xABC_DEF);
+    tour.holds(word::VCD_0, 0x200);
+    tour.feeds(&file[HEAD..], DONE);
+    tour.runs(65_535, WAITING, [3, 1]);
+    tour.holds(word::BP + 0x41, 0xABC_D05);
+    tour.holds(word::BP + 0xFE, 0xFF_FFFF);
+}
+
+/// 2, then 20 to 23 by the first place.
+fn refused_recordings(tour: &mut Tour) {
+    bench(tour);
+    let file = tour.records(&[0x48; 9], HEAD + 9);
+    for (place, number, refusal) in [
+        (0, 255, 20),
+        (0, 257, 20),
+        (1028, 61, 20),
+        (1272, 4183, 20),
+        (18_012, 65_536, 20),
+        (18_012, u32::MAX, 20),
+        (4, 0x100_0000, 21),
+        (1020, 0x100_0000, 21),
+        (1024, u32::MAX, 21),
+        (1144, 0x400_0000, 21),
+        (1204, u32::MAX, 21),
+        (1208, 0x100, 21),
+        (1268, 0x100, 21),
+    ] {
+        let spoilt = with(&file, place, number);
+        tour.not_loaded(&spoilt, refusal, place as u32);
+        // Before 22 and 23, but a number that is not whole is none.
+        tour.not_loaded(&spoilt[..place + 4], refusal, place as u32);
+        tour.not_loaded(&[&spoilt[..], &[0]].concat(), refusal, place as u32);
+        tour.not_loaded(&spoilt[..place + 3], 22, place as u32 + 3);
+        tour.not_loaded(&spoilt[..place + 1], 22, place as u32 + 1);
+    }
+    tour.not_loaded(&[], 22, 0);
+    tour.not_loaded(&file[..HEAD - 1], 22, 18_015);
+    for (count, bytes, refusal) in [(9, 8, 22), (9, 0, 22), (0, 1, 23), (65_535, 65_536, 23)] {
+        let mut other = with(&file, 18_012, count);
+        other.resize(HEAD + bytes, 0x48);
+        tour.rest_not_loaded(&other, refusal);
+    }
+    let spoilt = with(&file, 0, 255);
+    for xf in [0, 4183, 4185] {
+        tour.0.lend(256, xf, 129);
+        for file in [&file, &spoilt, &vec![]] {
+            let (whole, _) = tour.0.read_recording(file);
+            let (head, _) = tour.0.read_recording_head(file);
+            tour.same();
+            assert_eq!((whole, head), (2, 2));
+        }
+    }
+}
+
+/// 1, 2, 20, 16; window, control and draw are not looked at.
+fn refused_writings(tour: &mut Tour) {
+    bench(tour);
+    tour.recording_refused(9, HEAD + 8, 16);
+    tour.recording_refused(0, HEAD - 1, 16);
+    tour.recording_refused(0, 0, 16);
+    tour.head_refused(9, HEAD - 1, 16);
+    tour.recording_refused(65_536, 0, 20);
+    tour.recording_refused(65_536, HEAD + 65_536, 20);
+    for length in [65_536, 0x1_0000_0000, 0x1_0000_0009, usize::MAX] {
+        tour.head_refused(length, 0, 20);
+        tour.head_refused(length, HEAD, 20);
+    }
+    for xf in [0, 4183, 4185] {
+        tour.0.lend(256, xf, 129);
+        tour.recording_refused(65_536, 0, 2);
+        tour.head_refused(65_536, 0, 2);
+    }
+    for (index, number) in [
+        (word::BP, 0x100_0000),
+        (word::BP + 0xFE, 0x100_0000),
+        (word::BASES + 15, 0x400_0000),
+        (word::STRIDES, 0x100),
+    ] {
+        bench(tour);
+        tour.0.poke(index, number);
+        tour.recording_refused(9, HEAD + 9, 1);
+        tour.0.lend(256, 4183, 129);
+        tour.recording_refused(65_536, 0, 1);
+        tour.head_refused(65_536, 0, 1);
+    }
+    bench(tour);
+    for index in 0..11 {
+        tour.0.poke(index, u32::MAX);
+    }
+    tour.records(&[], HEAD);
 }

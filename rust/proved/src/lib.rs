@@ -14,6 +14,8 @@ pub type CommandWords = [u32; 5];
 pub type UnitWords = [u32; 6];
 /// Units done, bytes lacking.
 pub type ReportWords = [u32; 2];
+/// The place of a recording's stream in its file, and its length.
+pub type StreamWords = [u32; 2];
 /// A kind or a count, and nine values.
 pub type ValueWords = [u32; 10];
 /// So many for each attribute in order.
@@ -123,6 +125,43 @@ mod c {
             masks_len: usize,
             numbers: *const u32,
             numbers_len: usize,
+            output: *mut u8,
+            output_len: usize,
+            written: *mut u32,
+        ) -> u32;
+        pub fn duckhammock_read_recording(
+            state: *mut u32,
+            file: *const u8,
+            file_len: usize,
+            xf: *mut u32,
+            xf_len: usize,
+            stream: *mut u32,
+        ) -> u32;
+        pub fn duckhammock_read_recording_head(
+            state: *mut u32,
+            head: *const u8,
+            head_len: usize,
+            xf: *mut u32,
+            xf_len: usize,
+            length: *mut u32,
+        ) -> u32;
+        pub fn duckhammock_check_recording_rest(length: u32, rest: usize) -> u32;
+        pub fn duckhammock_find_recording_fault(head: *const u8, head_len: usize) -> u32;
+        pub fn duckhammock_write_recording(
+            state: *const u32,
+            xf: *const u32,
+            xf_len: usize,
+            stream: *const u8,
+            stream_len: usize,
+            output: *mut u8,
+            output_len: usize,
+            written: *mut u32,
+        ) -> u32;
+        pub fn duckhammock_write_recording_head(
+            state: *const u32,
+            xf: *const u32,
+            xf_len: usize,
+            length: usize,
             output: *mut u8,
             output_len: usize,
             written: *mut u32,
@@ -393,6 +432,108 @@ pub fn write_patch(masks: &[u32], numbers: &[u32], output: &mut [u8], written: &
             masks.len(),
             place(numbers, &0),
             numbers.len(),
+            place_mut(output, &mut 0),
+            output_len,
+            written,
+        )
+    }
+}
+
+/// `stream` is written only where the file is accepted.
+pub fn read_recording(
+    state: &mut StateWords,
+    file: &[u8],
+    xf: &mut [u32],
+    stream: &mut StreamWords,
+) -> u32 {
+    let xf_len = xf.len();
+    // SAFETY: four places that don't overlap, each lent for the call with its
+    // own length.
+    unsafe {
+        c::duckhammock_read_recording(
+            state.as_mut_ptr(),
+            place(file, &0),
+            file.len(),
+            place_mut(xf, &mut 0),
+            xf_len,
+            stream.as_mut_ptr(),
+        )
+    }
+}
+
+/// `length` is written only where the head is accepted.
+pub fn read_recording_head(
+    state: &mut StateWords,
+    head: &[u8],
+    xf: &mut [u32],
+    length: &mut u32,
+) -> u32 {
+    let xf_len = xf.len();
+    // SAFETY: four places that don't overlap, each lent for the call with its
+    // own length.
+    unsafe {
+        c::duckhammock_read_recording_head(
+            state.as_mut_ptr(),
+            place(head, &0),
+            head.len(),
+            place_mut(xf, &mut 0),
+            xf_len,
+            length,
+        )
+    }
+}
+
+pub fn check_recording_rest(length: u32, rest: usize) -> u32 {
+    // SAFETY: nothing is lent.
+    unsafe { c::duckhammock_check_recording_rest(length, rest) }
+}
+
+/// No refusal, but the byte of one.
+pub fn find_recording_fault(head: &[u8]) -> u32 {
+    // SAFETY: one place, lent for the call with its own length.
+    unsafe { c::duckhammock_find_recording_fault(place(head, &0), head.len()) }
+}
+
+pub fn write_recording(
+    state: &StateWords,
+    xf: &[u32],
+    stream: &[u8],
+    output: &mut [u8],
+    written: &mut u32,
+) -> u32 {
+    let output_len = output.len();
+    // SAFETY: the last two overlap nothing, the others are not written; each is
+    // lent for the call with its own length.
+    unsafe {
+        c::duckhammock_write_recording(
+            state.as_ptr(),
+            place(xf, &0),
+            xf.len(),
+            place(stream, &0),
+            stream.len(),
+            place_mut(output, &mut 0),
+            output_len,
+            written,
+        )
+    }
+}
+
+pub fn write_recording_head(
+    state: &StateWords,
+    xf: &[u32],
+    length: usize,
+    output: &mut [u8],
+    written: &mut u32,
+) -> u32 {
+    let output_len = output.len();
+    // SAFETY: the last two overlap nothing, the others are not written; each is
+    // lent for the call with its own length.
+    unsafe {
+        c::duckhammock_write_recording_head(
+            state.as_ptr(),
+            place(xf, &0),
+            xf.len(),
+            length,
             place_mut(output, &mut 0),
             output_len,
             written,

@@ -4,12 +4,13 @@ pub mod format;
 
 use compare::side::{Proved, Side};
 use model::words::{
-    CommandWords, FormatWords, ReportWords, StateWords, UnitWords, ValueWords, VertexWords,
+    CommandWords, FormatWords, ReportWords, StateWords, StreamWords, UnitWords, ValueWords,
+    VertexWords,
 };
 use model::ATTRIBUTES;
 
 /// The hand-tuned C. It has not the calls that the benchmark does not time, raw words,
-/// commands and patches: these are the proved library's.
+/// commands, patches and recordings: these are the proved library's.
 pub struct Hand;
 
 impl Side for Hand {
@@ -137,5 +138,55 @@ impl Side for Hand {
         written: &mut u32,
     ) -> u32 {
         Proved.write_patch(masks, numbers, output, written)
+    }
+
+    fn read_recording(
+        &self,
+        state: &mut StateWords,
+        file: &[u8],
+        xf: &mut [u32],
+        stream: &mut StreamWords,
+    ) -> u32 {
+        Proved.read_recording(state, file, xf, stream)
+    }
+
+    fn read_recording_head(
+        &self,
+        state: &mut StateWords,
+        head: &[u8],
+        xf: &mut [u32],
+        length: &mut u32,
+    ) -> u32 {
+        Proved.read_recording_head(state, head, xf, length)
+    }
+
+    fn check_recording_rest(&self, length: u32, rest: usize) -> u32 {
+        Proved.check_recording_rest(length, rest)
+    }
+
+    fn find_recording_fault(&self, head: &[u8]) -> u32 {
+        Proved.find_recording_fault(head)
+    }
+
+    fn write_recording(
+        &self,
+        state: &mut StateWords,
+        xf: &mut [u32],
+        stream: &[u8],
+        output: &mut [u8],
+        written: &mut u32,
+    ) -> u32 {
+        Proved.write_recording(state, xf, stream, output, written)
+    }
+
+    fn write_recording_head(
+        &self,
+        state: &mut StateWords,
+        xf: &mut [u32],
+        length: usize,
+        output: &mut [u8],
+        written: &mut u32,
+    ) -> u32 {
+        Proved.write_recording_head(state, xf, length, output, written)
     }
 }

@@ -5,6 +5,7 @@ pub mod cuts;
 mod draws;
 pub mod formats_between_draws;
 mod patches;
+mod recordings;
 mod refusals;
 mod registers;
 mod states;
@@ -21,11 +22,12 @@ use crate::random::Random;
 /// The seed of the fixed part.
 const FIXED: u64 = 0x6669_7865;
 
-/// The worked numbers, every refusal from every call that can give it, every
-/// row of the tables, all that a run is to go through.
+/// The worked numbers, every refusal from every call that can give it, every fault
+/// of a recording, every row of the tables, all that a run is to go through.
 pub fn fixed(duo: &mut Duo) {
     worked::worked(duo);
     refusals::every_refusal(duo);
+    recordings::every_fault(duo);
     tables::every_table_row(duo);
     let random = &mut Random::new(FIXED);
     (0..4).for_each(|_| formats_between_draws::stream(duo, random));
@@ -38,7 +40,7 @@ pub fn fixed(duo: &mut Duo) {
 
 /// One scenario by chance.
 pub fn by_chance(duo: &mut Duo, random: &mut Random) {
-    match random.below(45) {
+    match random.below(47) {
         0..=3 => streams::stream(duo, random),
         4 => streams::runs(duo, random),
         5..=8 => streams::mutated(duo, random),
@@ -64,6 +66,7 @@ pub fn by_chance(duo: &mut Duo, random: &mut Random) {
             3..=5 => cuts::draws_cut(duo, random),
             _ => formats_between_draws::each_word(duo, random),
         },
+        44 | 45 => recordings::recordings(duo, random),
         _ => match random.below(8) {
             0 => draws::big_draw(duo, random),
             1..=3 => registers::offsets(duo, random),

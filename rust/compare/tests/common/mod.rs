@@ -1,14 +1,16 @@
 //! A side that is the twin but for one fault, and the list of faults.
 
 mod looks;
+mod recordings;
 mod takes;
 
 use compare::side::{Side, Twin};
 use model::words::{
-    CommandWords, FormatWords, ReportWords, StateWords, UnitWords, ValueWords, VertexWords, DONE,
-    VALUE_WORDS, VERTEX_WORDS, WAITING,
+    CommandWords, FormatWords, ReportWords, StateWords, StreamWords, UnitWords, ValueWords,
+    VertexWords, DONE, VALUE_WORDS, VERTEX_WORDS, WAITING,
 };
 use model::ATTRIBUTES;
+use recordings::{Behind, Reading, Writing};
 
 macro_rules! faults {
     ($($fault:ident,)*) => {
@@ -153,6 +155,88 @@ faults! {
     UnitOverTheEndAwaited,
     LackingOfTheStretch,
     PointerLeftAtTheEnd,
+    ReadingWithout2,
+    ReadingXfLengthLast,
+    ReadingBpModulo,
+    ReadingBasesModulo,
+    ReadingStridesModulo,
+    ReadingStreamCountModulo,
+    ReadingTailPassed,
+    ReadingCutStreamTaken,
+    ReadingMaskTested,
+    ReadingVatTested,
+    ReadingXfTested,
+    ReadingCutNumberWide,
+    ReadingCutCountWrong,
+    ReadingShortBeforeCount,
+    ReadingNoStreamRefused,
+    ReadingLongestRefused,
+    ReadingShortAsLong,
+    ReadingLeavesTheDraw,
+    ReadingLeavesStaleWords,
+    ReadingFreshWindow,
+    ReadingFreshControl,
+    ReadingMasksControl,
+    ReadingVatByGroup,
+    ReadingMaskReset,
+    ReadingLastStrideLeft,
+    ReadingXfFromCount,
+    ReadingTellsPlace0,
+    ReadingTellsTheFile,
+    ReadingZeroesStream,
+    ReadingOnePass,
+    ReadingStoresRegisters,
+    ReadingHeadFirst,
+    HeadWithout2,
+    HeadTestsTheRest,
+    HeadOfJustItsBytes,
+    HeadCutNumberWide,
+    HeadWithoutStreamCount,
+    HeadLeavesTheDraw,
+    HeadMasksControl,
+    HeadXfWordLittleEndian,
+    HeadTellsTheRest,
+    HeadZeroesLength,
+    RestModulo32,
+    RestModulo16,
+    RestShortAsLong,
+    RestLongPassed,
+    RestNoStreamRefused,
+    RestTestsTheCount,
+    FindingNumberOfCut,
+    FindingEndOfNumber,
+    FindingLastByte,
+    FindingNumbers,
+    FindingTheLength,
+    FindingNoStreamCount,
+    FindingCutBeforeWide,
+    WritingBpModulo,
+    WritingBasesModulo,
+    WritingStridesModulo,
+    WritingTestsTheWindow,
+    WritingTestsTheControl,
+    WritingTestsTheDraw,
+    WritingTestsTheVat,
+    Writing2Before1,
+    Writing20Before2,
+    Writing16Before20,
+    WritingNeedsOneMore,
+    WritingLongestRefused,
+    WritingCountOneMore,
+    WritingXfLittleEndian,
+    WritingStreamShifted,
+    WritingMaskReset,
+    WritingVatByGroup,
+    WritingTailCleared,
+    WritingHeadBefore16,
+    WritingZeroesOutput,
+    WritingZeroesWritten,
+    WritingClosesTheDraw,
+    WritingMasksTheState,
+    WritingClearsXfWords,
+    HeadWritingModulo,
+    HeadWritingNeedsTheStream,
+    HeadWritingTellsTheFile,
 }
 
 const VERTEX: u32 = 0x01;
@@ -740,5 +824,74 @@ impl Side for Faulty {
             _ => {}
         }
         answer
+    }
+
+    fn read_recording(
+        &self,
+        state: &mut StateWords,
+        file: &[u8],
+        xf: &mut [u32],
+        stream: &mut StreamWords,
+    ) -> u32 {
+        Reading { state, file, xf }.whole(self.0, stream)
+    }
+
+    fn read_recording_head(
+        &self,
+        state: &mut StateWords,
+        head: &[u8],
+        xf: &mut [u32],
+        length: &mut u32,
+    ) -> u32 {
+        let mut reading = Reading {
+            state,
+            file: head,
+            xf,
+        };
+        reading.head(self.0, length)
+    }
+
+    fn check_recording_rest(&self, length: u32, rest: usize) -> u32 {
+        recordings::check_rest(self.0, length, rest)
+    }
+
+    fn find_recording_fault(&self, head: &[u8]) -> u32 {
+        recordings::find_fault(self.0, head)
+    }
+
+    fn write_recording(
+        &self,
+        state: &mut StateWords,
+        xf: &mut [u32],
+        stream: &[u8],
+        output: &mut [u8],
+        written: &mut u32,
+    ) -> u32 {
+        let mut writing = Writing {
+            state,
+            xf,
+            behind: Behind::Stream(stream),
+            output,
+            written,
+        };
+        writing.make(self.0)
+    }
+
+    fn write_recording_head(
+        &self,
+        state: &mut StateWords,
+        xf: &mut [u32],
+        length: usize,
+        output: &mut [u8],
+        written: &mut u32,
+    ) -> u32 {
+        let mut writing = Writing {
+            state,
+            xf,
+            behind: Behind::Count(length),
+            output,
+            written,
+        };
+        writing.make(self.0)
     }
 }

@@ -1,5 +1,5 @@
 //! The calls of `include/duckhammock.h` over the same words and slices, written
-//! from that header and document 01. Each gives the answer's number. A refused
+//! from that header and documents 01 and 02. Each gives the answer's number. A refused
 //! call leaves what was lent as it was, a waiting look or take all but the bytes
 //! lacking; a run keeps the units before the one that waits or is refused, and its
 //! report is told whatever the answer.
@@ -12,11 +12,12 @@ pub use command::{command_of, command_words};
 pub use state::{state_of, state_words};
 
 use crate::{
-    check_sheet, decode as decode_attribute, layout, merge_sheets, raw_words as raw_components,
+    check_recording_rest as check_rest, check_sheet, decode as decode_attribute,
+    find_recording_fault as find_fault, layout, merge_sheets, raw_words as raw_components,
     write_command as put_command, write_sheet, Answer, End, Memory, Refusal, Sheet, SheetMut,
     State, VertexFormat, View, ATTRIBUTES,
 };
-use state::{bench_of_registers, CONTROL, WRITE_POINTER};
+use state::{bench_of_recorded, bench_of_registers, CONTROL, DRAW_OPEN, WRITE_POINTER};
 use value::value_words;
 
 pub const STATE_WORDS: usize = 327;
@@ -24,6 +25,7 @@ pub const FORMAT_WORDS: usize = 5;
 pub const COMMAND_WORDS: usize = 5;
 pub const UNIT_WORDS: usize = 6;
 pub const REPORT_WORDS: usize = 2;
+pub const STREAM_WORDS: usize = 2;
 pub const VALUE_WORDS: usize = 10;
 pub const VERTEX_WORDS: usize = ATTRIBUTES * VALUE_WORDS;
 
@@ -36,6 +38,8 @@ pub type CommandWords = [u32; COMMAND_WORDS];
 pub type UnitWords = [u32; UNIT_WORDS];
 /// Units done, bytes lacking.
 pub type ReportWords = [u32; REPORT_WORDS];
+/// The place of a recording's stream in its file, and its length.
+pub type StreamWords = [u32; STREAM_WORDS];
 /// A kind or a count, and nine values.
 pub type ValueWords = [u32; VALUE_WORDS];
 /// So many for each attribute in order.
@@ -283,5 +287,77 @@ pub fn merge_patches(
 
 pub fn write_patch(masks: &[u32], numbers: &[u32], output: &mut [u8], written: &mut u32) -> u32 {
     let answer = write_sheet(&Sheet { masks, numbers }, output);
+    tell(answer.map(|bytes| bytes as u32), written)
+}
+
+/// Words 7 to 326 become those of a bench that a recording was read to: the words
+/// of the draw, which is not open, and the registers.
+fn keep_recorded(state: &mut StateWords, bench: &State) {
+    state[DRAW_OPEN..].copy_from_slice(&state_words(bench)[DRAW_OPEN..]);
+}
+
+/// "words 0 to 6 (window and control) stay, whatever they hold"
+pub fn read_recording(
+    state: &mut StateWords,
+    file: &[u8],
+    xf: &mut [u32],
+    stream: &mut StreamWords,
+) -> u32 {
+    let mut bench = State::fresh();
+    let answer = bench.read_recording(file, xf);
+    if answer.is_ok() {
+        keep_recorded(state, &bench);
+    }
+    tell(
+        answer.map(|told| [told.place as u32, told.length as u32]),
+        stream,
+    )
+}
+
+/// The same of the head alone.
+pub fn read_recording_head(
+    state: &mut StateWords,
+    head: &[u8],
+    xf: &mut [u32],
+    length: &mut u32,
+) -> u32 {
+    let mut bench = State::fresh();
+    let answer = bench.read_recording_head(head, xf);
+    if answer.is_ok() {
+        keep_recorded(state, &bench);
+    }
+    tell(answer, length)
+}
+
+pub fn check_recording_rest(length: u32, rest: usize) -> u32 {
+    number(&check_rest(length, rest))
+}
+
+/// No refusal, but the byte of one.
+pub fn find_recording_fault(head: &[u8]) -> u32 {
+    find_fault(head) as u32
+}
+
+/// "Of the state only words 11 to 326 are looked at"
+pub fn write_recording(
+    state: &StateWords,
+    xf: &[u32],
+    stream: &[u8],
+    output: &mut [u8],
+    written: &mut u32,
+) -> u32 {
+    let answer = bench_of_recorded(state).write_recording(xf, stream, output);
+    tell(answer.map(|bytes| bytes as u32), written)
+}
+
+/// The same of the head alone, for a stream of so many bytes.
+pub fn write_recording_head(
+    state: &StateWords,
+    xf: &[u32],
+    length: usize,
+    output: &mut [u8],
+    written: &mut u32,
+) -> u32 {
+    let answer = bench_of_recorded(state).write_recording_head(xf, length, output);
     tell(answer.map(|bytes| bytes as u32), written)
 }

@@ -1,11 +1,11 @@
 //! A state as the header's 327 words.
 
 use super::StateWords;
-use crate::{Draw, State, Window};
+use crate::{CpRegisters, Draw, State, Window};
 
 pub(super) const WRITE_POINTER: usize = 4;
 pub(super) const CONTROL: usize = 6;
-const DRAW_OPEN: usize = 7;
+pub(super) const DRAW_OPEN: usize = 7;
 const DRAW_PRIMITIVE: usize = 8;
 const DRAW_FORMAT: usize = 9;
 const DRAW_LEFT: usize = 10;
@@ -47,6 +47,25 @@ pub(super) fn bench_of_registers(words: &StateWords) -> State {
     bench
 }
 
+/// The bench for the calls that look at the BP and CP registers, and at nothing
+/// else: those that write a recording.
+pub(super) fn bench_of_recorded(words: &StateWords) -> State {
+    let mut bench = State::fresh();
+    bench.cp = cp_of(words);
+    bench.bp = part(words, BP);
+    bench
+}
+
+fn cp_of(words: &StateWords) -> CpRegisters {
+    CpRegisters {
+        matrix: part(words, CP_3X),
+        vcd: part(words, VCD),
+        vat: std::array::from_fn(|format| part(words, VAT + 3 * format)),
+        bases: part(words, BASES),
+        strides: part(words, STRIDES),
+    }
+}
+
 /// The state that the words say; none where a word does not fit its field,
 /// which look, take and run refuse by 1.
 pub fn state_of(words: &StateWords) -> Option<State> {
@@ -54,13 +73,7 @@ pub fn state_of(words: &StateWords) -> Option<State> {
         window: window_of(words),
         control: words[CONTROL].try_into().ok()?,
         draw: draw_of(words)?,
-        cp: crate::CpRegisters {
-            matrix: part(words, CP_3X),
-            vcd: part(words, VCD),
-            vat: std::array::from_fn(|format| part(words, VAT + 3 * format)),
-            bases: part(words, BASES),
-            strides: part(words, STRIDES),
-        },
+        cp: cp_of(words),
         bp: part(words, BP),
     })
 }
