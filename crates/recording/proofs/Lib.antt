@@ -3,3 +3,7 @@ pub mod Finding
 pub mod Putting
 pub mod Sound
 pub mod Outcomes
+pub mod Head
+pub mod Content
+pub mod Back
+pub mod Promises
