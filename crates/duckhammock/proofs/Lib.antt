@@ -2,3 +2,4 @@ pub mod Chained
 pub mod Waiting
 pub mod Looks
 pub mod Wholes
+pub mod Recorded

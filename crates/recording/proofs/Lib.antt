@@ -7,3 +7,4 @@ pub mod Head
 pub mod Content
 pub mod Back
 pub mod Promises
+pub mod Meanings
