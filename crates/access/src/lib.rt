@@ -34,7 +34,7 @@ pub fn read_register(state: &[u32; 327], offset: u16, value: &mut u32) -> u32
         window: words::window(state),
         control: 0,
     };
-    let reading = fifo::read_register(fifo, state[7] != 0, offset);
+    let reading = registers::read_register(fifo, state[7] != 0, offset);
     match reading {
         Reading::Refused(reason) => encoding::refused(reason),
         Reading::Value(held) => {
@@ -52,7 +52,7 @@ pub fn write_register(state: &mut [u32; 327], offset: u16, value: u16) -> u32
         window: words::window(state),
         control: 0,
     };
-    let changed = fifo::write_register(fifo, offset, value);
+    let changed = registers::write_register(fifo, offset, value);
     let answer = changed.answer;
     let after = changed.fifo;
     if let Answer::Refused(reason) = answer {

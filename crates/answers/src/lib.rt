@@ -1,8 +1,8 @@
 // What a look, a taking and a run answer, as numbers.
-use processor::StepAnswer;
 use running::Stop;
+use unit::StepAnswer;
 ghost use mathlib.Core.Path.{_≡_};
-ghost use Rattle.processor.specs.Step.{meaning};
+ghost use Rattle.unit.specs.Answers.{meaning};
 ghost use Rattle.running.specs.Run.{meaningOfStop};
 ghost use Rattle.encoding.specs.Told.{firstOf, secondOf, Tells};
 

@@ -16,7 +16,7 @@ use Rattle.writer.specs.Write as writer
 use Rattle.patch.specs.declared.Checked.{Checked}
 use Rattle.patch.specs.Patch.{Patch, mergedOf}
 use Rattle.patch.specs.Answers as patches
-use Rattle.patch.specs.Merging.{Merges, mergeRefusal}
+use Rattle.merging.specs.Merging.{Merges, mergeRefusal}
 use Rattle.encoding.specs.Told.{firstOf, secondOf}
 use Rattle.patching.specs.Writing.{PutsBytes, MergesInto}
 use Rattle.patching.specs.Counting.{CountsBytes}

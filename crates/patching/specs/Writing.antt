@@ -7,9 +7,9 @@ use lib.Dec.{eqb}
 use lib.ListN.{length}
 use Rattle.writer.specs.Write as writer
 use Rattle.patch.specs.Patch.{Patch, mergedOf}
-use Rattle.patch.specs.Commands.{patchBytes}
-use Rattle.patch.specs.Answers.{writeRefusal}
-use Rattle.patch.specs.Merging.{mergeRefusal}
+use Rattle.patchwriter.specs.Commands.{patchBytes}
+use Rattle.patchwriter.specs.Answers.{writeRefusal}
+use Rattle.merging.specs.Merging.{mergeRefusal}
 
 -- bytes written to the front of an output, and how many, unless this refuses it
 pub record PutsBytes (refusal : ℕ) (bytes out : List ℕ) (count r : ℕ) (out' : List ℕ) (count' : ℕ) : Type 0 where

@@ -2,10 +2,10 @@
 use command::Draw;
 use fifo::Fifo;
 use machine::Gate;
-use processor::StepAnswer;
 use processor::TakenUnit;
 use refusal::Reason;
 use running::Ran;
+use unit::StepAnswer;
 use words::BP_PLACE;
 use words::Front;
 ghost use mathlib.Core.Path.{_≡_};
