@@ -29,7 +29,7 @@ use Rattle.unit.specs.Answers.{meaning}
 use Rattle.processor.specs.Step.{executed, after, stepFound, stepOf, Steps}
 use Rattle.running.specs.Run.{Ended, ended, steps, gated, runLimit, runOf, meaningOfStop, Reports}
 use Rattle.running.proofs.Invariant.{none-run}
-use Rattle.words.specs.declared.state.Front.the-variants.{Held}
+use Rattle.words.specs.declared.Front.the-variants.{Held}
 use Rattle.words.specs.State.{cpOf, bpOf, stateAt, wordsBy}
 use Rattle.words.specs.Front.{frontOf, wordsAfterUnit}
 use Rattle.encoding.specs.Told.{firstOf, secondOf, answerNumber, Tells}
