@@ -22,7 +22,7 @@ use Rattle.fifo.specs.declared.Answer.the-variants as answer
 use Rattle.fifo.specs.Answers.{meaningOf, meaningOfReading, ChangedBy}
 use Rattle.queue.specs.Feeding.{feedRefusal, accepted, fifoAfter, ringAfter, FedBy}
 use Rattle.fifo.specs.Window.{readyBy, accept, withWindow, withControl, withWrite}
-use Rattle.fifo.specs.Registers.{listed, computed, readable, writable, valueOf, readAnswer, withRegister, stored, written, writeAnswer}
+use Rattle.registers.specs.Registers.{listed, computed, readable, writable, valueOf, readAnswer, withRegister, stored, written, writeAnswer}
 use Rattle.machine.specs.State.{drawingOf}
 use Rattle.words.specs.State.{windowOf, fifoOf, drawOf, leftOf, fifoStored}
 use Rattle.encoding.specs.Told.{firstOf, secondOf}

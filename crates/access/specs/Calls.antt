@@ -8,7 +8,7 @@ use Prim.Native.Nat.{ℕ}
 use lib.Dec.{eqb}
 use lib.ListN.{length}
 use Rattle.queue.specs.Feeding.{feedRefusal, fifoAfter, ringAfter}
-use Rattle.fifo.specs.Registers.{readAnswer, writeAnswer, written}
+use Rattle.registers.specs.Registers.{readAnswer, writeAnswer, written}
 use Rattle.machine.specs.State.{drawingOf}
 use Rattle.words.specs.State.{fifoOf, drawOf, fifoStored}
 use Rattle.encoding.specs.Told.{firstOf, secondOf}

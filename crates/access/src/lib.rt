@@ -19,7 +19,7 @@ pub fn fresh(state: &mut [u32; 327])
     let cp = registers.cp;
     let bp = registers.bp;
     let draw = registers.draw;
-    words::save(state, fifo, &cp, &bp, draw);
+    saving::save(state, fifo, &cp, &bp, draw);
 }
 
 // Reads a hardware register; the control register as its word stands.
@@ -34,7 +34,7 @@ pub fn read_register(state: &[u32; 327], offset: u16, value: &mut u32) -> u32
         window: words::window(state),
         control: 0,
     };
-    let reading = fifo::read_register(fifo, state[7] != 0, offset);
+    let reading = registers::read_register(fifo, state[7] != 0, offset);
     match reading {
         Reading::Refused(reason) => encoding::refused(reason),
         Reading::Value(held) => {
@@ -52,17 +52,17 @@ pub fn write_register(state: &mut [u32; 327], offset: u16, value: u16) -> u32
         window: words::window(state),
         control: 0,
     };
-    let changed = fifo::write_register(fifo, offset, value);
+    let changed = registers::write_register(fifo, offset, value);
     let answer = changed.answer;
     let after = changed.fifo;
     if let Answer::Refused(reason) = answer {
         return encoding::refused(reason);
     }
     if offset == CONTROL {
-        words::save_control(state, after.control);
+        saving::save_control(state, after.control);
         return 0;
     }
-    words::save_window(state, after.window);
+    saving::save_window(state, after.window);
     0
 }
 
@@ -80,6 +80,6 @@ pub fn feed(state: &mut [u32; 327], ring: &mut [u8], bytes: &[u8]) -> u32
     if let Answer::Refused(reason) = answer {
         return encoding::refused(reason);
     }
-    words::save_write(state, after.window.write);
+    saving::save_write(state, after.window.write);
     0
 }

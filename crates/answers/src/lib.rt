@@ -1,9 +1,9 @@
 // What a look, a taking, a run and a writer answer, as numbers.
-use processor::StepAnswer;
 use running::Stop;
+use unit::StepAnswer;
 use writer::Written;
 ghost use mathlib.Core.Path.{_≡_};
-ghost use Rattle.processor.specs.Step.{meaning};
+ghost use Rattle.unit.specs.Answers.{meaning};
 ghost use Rattle.running.specs.Run.{meaningOfStop};
 ghost use Rattle.encoding.specs.Told.{firstOf, secondOf, Tells};
 ghost use Rattle.answers.specs.Counting.{CountsBytes};

@@ -25,7 +25,7 @@ fn size_of(cp: &[u32; 60], sizes: &mut [u8; 8], format: u8) -> u32
     if known != 0 {
         return known;
     }
-    let size = command::vertex_bytes(cp, format);
+    let size = looking::vertex_bytes(cp, format);
     sizes[f] = size as u8;
     size
 }

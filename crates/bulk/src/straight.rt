@@ -43,10 +43,10 @@ fn take_class(
 {
     let op = bytes[at];
     match op {
-        0x61 => closed(plain::take_bp(bytes, at, bp, most)),
+        0x61 => closed(loading::take_bp(bytes, at, bp, most)),
         0x00 => closed(plain::take_zeros(bytes, at, most)),
         0x08 => closed(loads::take_cp(bytes, at, cp, sizes, most)),
-        0x10 => closed(plain::take_xf(bytes, at, xf, most)),
+        0x10 => closed(loading::take_xf(bytes, at, xf, most)),
         0x48 | 0x44 => closed(plain::take_fixed(bytes, at, 1)),
         0x20 | 0x28 | 0x30 | 0x38 => closed(plain::take_fixed(bytes, at, 5)),
         0x40 => closed(plain::take_fixed(bytes, at, 9)),

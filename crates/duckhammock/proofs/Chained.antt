@@ -9,7 +9,7 @@ use borrow.Author.Tests.{eqb-true}
 use Rattle.octets.specs.BigEndian.{Octets}
 use Rattle.command.specs.Command.{Found, unit, waiting, refused}
 use Rattle.fifo.specs.declared.Fifo.{Fifo}
-use Rattle.fifo.specs.Registers.{writable, writeAnswer, written}
+use Rattle.registers.specs.Registers.{writable, writeAnswer, written}
 use Rattle.queue.specs.Feeding.{accepted, fifoAfter, ringAfter}
 use Rattle.queue.proofs.FeedLaws.{refused-left}
 use Rattle.machine.specs.State.{State}

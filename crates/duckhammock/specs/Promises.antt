@@ -8,7 +8,7 @@ use Prim.Native.Nat.{ℕ, _*_, _<_, _≤_}
 use lib.ListN.{length, take, drop}
 use Rattle.octets.specs.BigEndian.{Octets}
 use Rattle.command.specs.Command.{waiting}
-use Rattle.fifo.specs.Registers.{written}
+use Rattle.registers.specs.Registers.{written}
 use Rattle.queue.specs.Feeding.{roomOf, fifoAfter, ringAfter}
 use Rattle.machine.specs.State.{State}
 use Rattle.processor.specs.Step.{stepFound, stepOf}

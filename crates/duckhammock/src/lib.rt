@@ -97,7 +97,7 @@ pub extern "C" fn duckhammock_run(
         (lentOf (now (state .entry)) (now (xf .entry)) (now (vertex .entry)))
         r (lentOf (now (state .exit)) (now (xf .exit)) (now (vertex .exit))) (now (report .exit)) ⌝ }
 {
-    stepping::run(state, ring, xf, vertex, limit, report)
+    runner::run(state, ring, xf, vertex, limit, report)
 }
 
 // The layout of a vertex: each attribute's bytes, the sum of those before it, and the length.

@@ -1,4 +1,2 @@
-pub mod Arms
 pub mod Lengths
-pub mod Four
 pub mod Mask

@@ -1,4 +1,2 @@
 pub mod WindowLaws
-pub mod RegisterLaws
-pub mod ReadBack
 pub mod Meaning

@@ -1,4 +1,2 @@
 pub mod Window
 pub mod Answers
-pub mod Registers
-pub mod Promises

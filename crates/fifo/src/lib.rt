@@ -1,10 +1,6 @@
-// What one port owns of the command stream: the ring window, its rules and its count, and the hardware registers.
-mod access;
+// What one port owns of the command stream: the ring window, its rules and its count.
 mod rules;
 
-pub use access::read_register;
-pub use access::with_window;
-pub use access::write_register;
 use refusal::Reason;
 pub use rules::count;
 pub use rules::gap;
@@ -12,7 +8,7 @@ pub use rules::minus;
 pub use rules::ready;
 pub use rules::valid;
 ghost use mathlib.Core.Path.{_≡_};
-ghost use Rattle.fifo.specs.Window.{freshFifo};
+ghost use Rattle.fifo.specs.Window.{withWindow, freshFifo};
 
 // The most bytes of a ring: "Size is 256 to 65,536".
 pub const SIZE_LIMIT: u32 = 65536;
@@ -73,4 +69,13 @@ pub fn fresh() -> Fifo
         window,
         control: 0x10,
     }
+}
+
+// The fifo with another window.
+pub fn with_window(fifo: Fifo, window: Window) -> Fifo
+    ensures { λ r. ⌜ r ≡ withWindow fifo window ⌝ }
+{
+    let mut r = fifo;
+    r.window = window;
+    r
 }

@@ -17,7 +17,7 @@ fn save(state: &mut [u32; 327], registers: Registers)
     let cp = registers.cp;
     let bp = registers.bp;
     let draw = registers.draw;
-    words::save_registers(state, &cp, &bp, draw);
+    saving::save_registers(state, &cp, &bp, draw);
 }
 
 // Reads a whole file: the registers, with no draw open, the XF words, where the stream stands and how long it is.

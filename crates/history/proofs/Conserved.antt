@@ -16,7 +16,7 @@ use Rattle.fifo.specs.declared.Fifo.{Fifo}
 use Rattle.fifo.specs.declared.Window.{Window}
 use Rattle.fifo.specs.Window.{countOf}
 use Rattle.queue.specs.Pending.{pending}
-use Rattle.fifo.specs.Registers.{wordAt, withRegister, stored, writable, written}
+use Rattle.registers.specs.Registers.{wordAt, withRegister, stored, writable, written}
 use Rattle.queue.proofs.FeedLaws.{pending-after}
 use Rattle.queue.proofs.Pending.{length-pending}
 use Rattle.processor.specs.Step.{stepFound, stepOf}

@@ -8,7 +8,7 @@ use lib.ListN.{length, drop, length-drop}
 use lib.Seq.{drop-drop}
 use Rattle.command.specs.Command.{Found, unit, waiting, refused}
 use Rattle.command.proofs.Refusals.{unless-unit}
-use Rattle.queue.proofs.CursorLaws.{reads-pending}
+use Rattle.cursor.proofs.CursorLaws.{reads-pending}
 use Rattle.queue.proofs.Pending.{length-pending}
 use Rattle.machine.specs.State.{State}
 use Rattle.machine.specs.Gate.{gateOf}

@@ -13,7 +13,7 @@ use Rattle.command.specs.Prefix.{Settled}
 use Rattle.command.proofs.Extends.{unit-settled, refused-settled}
 use Rattle.command.proofs.Prefix.{look-prefix}
 use Rattle.effect.specs.Effect.{cpAfter, bpAfter, drawAfter}
-use Rattle.queue.proofs.CursorLaws.{reads-pending}
+use Rattle.cursor.proofs.CursorLaws.{reads-pending}
 use Rattle.queue.proofs.Pending.{length-pending}
 use Rattle.machine.specs.State.{State}
 use Rattle.machine.specs.Gate.{gateOf}

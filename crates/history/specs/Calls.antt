@@ -9,7 +9,7 @@ use Rattle.command.specs.Command.{Found, unit, waiting, refused}
 use Rattle.fifo.specs.declared.Fifo.{Fifo}
 use Rattle.fifo.specs.Window.{countOf}
 use Rattle.queue.specs.Feeding.{bytesAccepted, fifoAfter, ringAfter}
-use Rattle.fifo.specs.Registers.{writable, written}
+use Rattle.registers.specs.Registers.{writable, written}
 use Rattle.machine.specs.State.{State}
 use Rattle.processor.specs.Step.{queueOf, stepFound, stepOf}
 use Rattle.running.specs.Run.{Taken, runOf}

@@ -9,7 +9,7 @@ pub use tests::pass;
 pub use tests::registers_fit;
 ghost use mathlib.Core.Path.{_≡_};
 ghost use Rattle.fifo.specs.Answers.{meaningOfReading};
-ghost use Rattle.fifo.specs.Registers.{readAnswer};
+ghost use Rattle.registers.specs.Registers.{readAnswer};
 ghost use Rattle.machine.specs.State.{freshMachine, drawingOf};
 
 // What ports share: the 60 CP registers, the 256 BP registers, and the open draw. A look, a taking and a run are lent the registers.
@@ -63,5 +63,5 @@ pub fn read_register(fifo: Fifo, registers: Registers, offset: u16) -> Reading
     ensures { λ r. ⌜ meaningOfReading r ≡ readAnswer fifo (drawingOf (registers .draw)) offset ⌝ }
 {
     let draw = registers.draw;
-    fifo::read_register(fifo, drawing(draw), offset)
+    registers::read_register(fifo, drawing(draw), offset)
 }

@@ -15,6 +15,7 @@ use Rattle.laws.proofs.Cases.{or-left, or-right}
 use Rattle.refusal.specs.Number.{number}
 use Rattle.refusal.specs.declared.Reason.{Reason}
 use Rattle.refusal.proofs.Positive.{number-some}
+use Rattle.refusal.proofs.First.{or-some, or-zero}
 use Rattle.effect.specs.Effect.{maskPlace}
 use Rattle.patch.specs.Patch.{bpCount, Patch, patchOf, maskAt, numberAt, faultAt, orElse, faultFrom, faultOf, IsAccepted}
 
@@ -32,11 +33,6 @@ module _ (ms ns : List ℕ) where
   pub fault-sized : length ms ≡ bpCount → length ns ≡ bpCount → faultOf (patchOf ms ns) ≡ faultFrom bpCount 0 (patchOf ms ns)
   unfolding faultOf
   fault-sized h k = rw (eq-eqb (length ms) bpCount h, eq-eqb (length ns) bpCount k)
-
--- a fault that is one comes first
-pub or-some : (f g : ℕ) → 1 ≤ f → orElse f g ≡ f
-or-some zero g h = absurd (omega arith)
-or-some (suc f) g h = refl
 
 module _ (p : Patch) (r : ℕ) where
   -- the fault of register r
@@ -113,10 +109,6 @@ at-clean r m n h =
       le-ltb 0xFFFFFF m (omega (arith, h .narrow)),
       eq-eqb _ _ (h .inside),
     )
-
-or-zero : (f g : ℕ) → orElse f g ≡ 0 → (f ≡ 0) × (g ≡ 0)
-or-zero zero g e = (refl, e)
-or-zero (suc f) g e = absurd (omega arith)
 
 module _ (p : Patch) where
   from-clean : (n r : ℕ) → faultFrom n r p ≡ 0 → (i : ℕ) → r ≤ i → i < r + n → here p i ≡ 0

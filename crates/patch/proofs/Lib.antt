@@ -2,10 +2,5 @@ pub mod Faults
 pub mod Masked
 pub mod LoadedBits
 pub mod Algebra
-pub mod Loads
-pub mod Writing
-pub mod Execution
-pub mod Stream
 pub mod Meanings
-pub mod Merges
 pub mod Promises

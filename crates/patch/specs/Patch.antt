@@ -7,13 +7,11 @@ use lib.Bits.{bitAnd, bitOr}
 use lib.Dec.{eqb, ltb}
 use lib.ListN.{length, getD}
 use Rattle.laws.specs.Values.{upTo}
+pub use Rattle.refusal.specs.Number.{orElse}
+pub use Rattle.places.specs.Places.{bpCount}
 use Rattle.effect.specs.Effect.{masked, maskPlace}
 
 -- ---- a patch
-
--- how many BP registers there are
-abbrev pub bpCount : ℕ
-bpCount = 256
 
 -- "A sheet is 256 masks and 256 numbers."
 pub record Patch : Type 0 where
@@ -42,11 +40,6 @@ faultAt r mask n =
     cond (eqb r maskPlace && (not (eqb mask 0) || not (eqb n 0))) 13
     (cond (ltb 0xFFFFFF mask) 14
     (cond (eqb (bitAnd n mask) n) 0 15))
-
--- the first of two faults
-abbrev pub orElse : ℕ → ℕ → ℕ
-orElse zero other = other
-orElse (suc fault) other = suc fault
 
 -- the first fault of n registers from r on: "Sheets are searched by register ascending .. the search ends at the first fault."
 unfoldable pub faultFrom : ℕ → ℕ → Patch → ℕ

@@ -6,7 +6,7 @@ use lib.Dec.{eqb}
 use Rattle.patch.specs.declared.Checked.{Checked}
 use Rattle.patch.specs.Patch.{Patch, mergedOf}
 use Rattle.patch.specs.Answers as patches
-use Rattle.patch.specs.Merging.{Merges, mergeRefusal}
+use Rattle.merging.specs.Merging.{Merges, mergeRefusal}
 use Rattle.patching.specs.Writing.{MergesInto}
 
 pub merges : {a b out out' : Patch} {f : Checked} {r : ℕ} → r ≡ patches.meaning f → Merges a b out f out' → MergesInto a b out r out'

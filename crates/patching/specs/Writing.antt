@@ -8,9 +8,9 @@ use lib.ListN.{length}
 use Rattle.writer.specs.Write as writer
 use Rattle.answers.specs.Counting.{PutsBytes}
 use Rattle.patch.specs.Patch.{Patch, mergedOf}
-use Rattle.patch.specs.Commands.{patchBytes}
-use Rattle.patch.specs.Answers.{writeRefusal}
-use Rattle.patch.specs.Merging.{mergeRefusal}
+use Rattle.patchwriter.specs.Commands.{patchBytes}
+use Rattle.patchwriter.specs.Answers.{writeRefusal}
+use Rattle.merging.specs.Merging.{mergeRefusal}
 
 -- one command with its lent words, written
 abbrev pub PutsCommand : List ℕ → List ℕ → List ℕ → ℕ → ℕ → List ℕ → ℕ → Type 0

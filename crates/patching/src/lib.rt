@@ -45,7 +45,7 @@ pub fn merge(
         (patchOf (now («b_masks» .entry)) (now («b_numbers» .entry)))
         (patchOf (now (masks .entry)) (now (numbers .entry))) r (patchOf (now (masks .exit)) (now (numbers .exit))) ⌝ }
 {
-    let merged = patch::merge(a_masks, a_numbers, b_masks, b_numbers, masks, numbers);
+    let merged = merging::merge(a_masks, a_numbers, b_masks, b_numbers, masks, numbers);
     checked_number(merged)
 }
 
@@ -54,6 +54,6 @@ pub fn write(masks: &[u32], numbers: &[u32], output: &mut [u8], written: &mut u3
     ensures { λ r. ⌜ PutsPatch (patchOf (now (masks .entry)) (now (numbers .entry))) (now (output .entry)) (now (written .entry))
         r (now (output .exit)) (now (written .exit)) ⌝ }
 {
-    let answer = patch::write(masks, numbers, output);
+    let answer = patchwriter::write(masks, numbers, output);
     answers::tell_bytes(answer, written)
 }

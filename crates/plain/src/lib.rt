@@ -1,10 +1,7 @@
-// Units that open no draw, off a plain slice of bytes, where they lie whole from a place on while no draw is open: runs of 00, of BP
-// loads and of XF loads, one unit of a fixed length.
-mod loads;
+// Units that change nothing, off a plain slice of bytes, where they lie whole from a place on while no draw is open: runs of 00, one unit
+// of a fixed length.
 mod zeros;
 
-pub use loads::take_bp;
-pub use loads::take_xf;
 pub use zeros::take_zeros;
 ghost use Rattle.plain.specs.Fixed.{Fixed};
 

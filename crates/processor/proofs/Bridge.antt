@@ -11,15 +11,16 @@ use Rattle.command.specs.Look.{lookOf}
 use Rattle.command.proofs.Bounds.{Fair, look-fair}
 use Rattle.command.proofs.Prefix.{look-nine}
 use Rattle.effect.specs.Effect.{xfAfter, vertexAfter}
-use Rattle.queue.specs.declared.Cursor.{Cursor}
+use Rattle.cursor.specs.declared.Cursor.{Cursor}
 use Rattle.fifo.specs.Window.{Ready, countOf}
-use Rattle.queue.specs.Cursor.{opened, peeked}
-use Rattle.queue.proofs.CursorLaws.{reads-pending}
+use Rattle.cursor.specs.Cursor.{opened, peeked}
+use Rattle.cursor.proofs.CursorLaws.{reads-pending}
 use Rattle.queue.proofs.Pending.{length-pending}
-use Rattle.processor.specs.declared.StepAnswer.{StepAnswer}
+use Rattle.unit.specs.declared.StepAnswer.{StepAnswer}
 use Rattle.machine.specs.State.{State}
-use Rattle.processor.specs.Step.{meaning, queueOf, lookAt, executed, after}
-use Rattle.processor.specs.Cursor.{seen, cursorBy, cpBy, bpBy, drawBy, xfBy, bufferBy, Takes}
+use Rattle.unit.specs.Answers.{meaning}
+use Rattle.processor.specs.Step.{queueOf, lookAt, executed, after}
+use Rattle.unit.specs.Cursor.{seen, cursorBy, cpBy, bpBy, drawBy, xfBy, bufferBy, Takes}
 
 -- a unit taken at the state s, or none: the answer, the cursor, and the state
 pub record TakesUnit (ring : List ℕ) (s : State) (answer : StepAnswer) (cursor : Cursor) (draw : Draw)

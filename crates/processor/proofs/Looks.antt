@@ -2,7 +2,7 @@
 use mathlib.Core.Path.{sym, ap, _∙_}
 use Rattle.processor.specs.Step.{after, stepOf}
 use Rattle.processor.specs.Promises.{LookThenTake}
-use Rattle.processor.proofs.Meanings.{answer-injective}
+use Rattle.unit.proofs.Meanings.{answer-injective}
 
 pub look-then-take : LookThenTake
 unfolding stepOf

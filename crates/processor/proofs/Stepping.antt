@@ -8,19 +8,19 @@ use Rattle.refusal.specs.declared.Reason.{Reason}
 use Rattle.command.specs.declared.Draw.{Draw}
 use Rattle.command.specs.Command.{Found, unit, waiting, refused}
 use Rattle.command.proofs.Refusals.{unless-refused}
-use Rattle.queue.specs.declared.Cursor.{Cursor}
+use Rattle.cursor.specs.declared.Cursor.{Cursor}
 use Rattle.fifo.specs.declared.Fifo.{Fifo}
 use Rattle.fifo.specs.Window.{Ready, consume}
-use Rattle.queue.specs.Cursor.{opened, closed}
-use Rattle.queue.proofs.CursorLaws.{reads-pending}
+use Rattle.cursor.specs.Cursor.{opened, closed}
+use Rattle.cursor.proofs.CursorLaws.{reads-pending}
 use Rattle.queue.proofs.Moves.{consume-none}
-use Rattle.processor.specs.declared.StepAnswer.{StepAnswer}
-use Rattle.processor.specs.declared.StepAnswer.the-variants.{Refused}
+use Rattle.unit.specs.declared.StepAnswer.{StepAnswer}
+use Rattle.unit.specs.declared.StepAnswer.the-variants.{Refused}
 use Rattle.machine.specs.State.{State, stateOf}
 use Rattle.machine.specs.Gate.{gateOf}
 use Rattle.processor.specs.Step.{lookAt, executed, after, stepFound, stepOf, Steps}
 use Rattle.machine.proofs.Passing.{Passes, gate-passes}
-use Rattle.processor.specs.Cursor.{seen}
+use Rattle.unit.specs.Cursor.{seen}
 use Rattle.processor.proofs.Bridge.{TakesUnit, seen-is}
 
 module _ (ring : List ℕ) (fifo : Fifo) (cp bp : List ℕ) (draw : Draw) (xf buffer : List ℕ) where

@@ -2,10 +2,11 @@
 use mathlib.Core.Path.{_≡_}
 use mathlib.Core.List.{List}
 use Prim.Native.Nat.{ℕ}
-use Rattle.processor.specs.declared.StepAnswer.{StepAnswer}
+use Rattle.unit.specs.declared.StepAnswer.{StepAnswer}
 use Rattle.processor.specs.declared.taking.TakenUnit.{TakenUnit}
 use Rattle.machine.specs.State.{State, stateOf}
-use Rattle.processor.specs.Step.{meaning, after, stepFound, Steps}
+use Rattle.unit.specs.Answers.{meaning}
+use Rattle.processor.specs.Step.{after, stepFound, Steps}
 
 pub record LookThenTake : Type 0 where
   -- "Looking and then taking, with nothing between, names the same unit, and refusals and waiting are the same in both, numbers and order"

@@ -5,23 +5,15 @@ use mathlib.Core.Path.{_≡_}
 use mathlib.Core.List.{List}
 use Prim.Native.Nat.{ℕ}
 use lib.ListN.{length, take}
-use Rattle.refusal.specs.Number.{number}
-use Rattle.command.specs.Command.{Found, unit, waiting, refused, numbersOf}
+use Rattle.command.specs.Command.{Found, unit, waiting, refused}
 use Rattle.command.specs.Look.{unlessRefused, lookOf}
 use Rattle.effect.specs.Effect.{cpAfter, bpAfter, xfAfter, vertexAfter, drawAfter}
 use Rattle.fifo.specs.Window.{consume}
 use Rattle.queue.specs.Pending.{pending}
-use Rattle.processor.specs.declared.StepAnswer.{StepAnswer}
-use Rattle.processor.specs.declared.StepAnswer.the-variants.{Done, Waiting, Refused}
+use Rattle.unit.specs.Answers.{meaning}
 use Rattle.processor.specs.declared.taking.TakenUnit.{TakenUnit}
 use Rattle.machine.specs.State.{State, stateOf}
 use Rattle.machine.specs.Gate.{gateOf}
-
--- what an answer says
-abbrev pub meaning : StepAnswer → Found
-meaning (Done command memory length) = unit (numbersOf command) memory length
-meaning (Waiting lacking) = waiting lacking
-meaning (Refused reason) = refused (number reason)
 
 -- the queue of a state's fifo
 abbrev pub queueOf : List ℕ → State → List ℕ

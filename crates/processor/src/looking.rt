@@ -1,23 +1,14 @@
 // The next unit looked at and not taken.
-use crate::StepAnswer;
 use command::Draw;
 use command::Next;
 use fifo::Fifo;
 use machine::Gate;
-use queue::Cursor;
+use unit::StepAnswer;
 ghost use mathlib.Core.Path.{_≡_};
 ghost use Rattle.command.specs.Command as command;
-ghost use Rattle.processor.specs.Cursor.{seen};
 ghost use Rattle.machine.specs.State.{stateOf};
-ghost use Rattle.processor.specs.Step.{meaning, stepFound};
-
-// What the cursor begins with: a unit, or why there is none. It tests none of 1 to 5.
-pub fn look_at(cursor: Cursor, ring: &[u8], cp: &[u32; 60], draw: Draw) -> Next
-    ensures { λ r. ⌜ command.meaning r ≡ seen cursor (now (ring .entry)) (now (cp .entry)) draw ⌝ }
-{
-    let bytes = queue::peek(cursor, ring);
-    command::look(bytes, cursor.left, cp, draw)
-}
+ghost use Rattle.unit.specs.Answers.{meaning};
+ghost use Rattle.processor.specs.Step.{stepFound};
 
 // What was found, as the machine answers it.
 fn answer_of(next: Next) -> StepAnswer
@@ -54,6 +45,6 @@ pub fn look(
     let gate = machine::pass(fifo, cp, bp, draw, ring.len(), xf.len(), buffer.len());
     match gate {
         Gate::Refused(reason) => StepAnswer::Refused(reason),
-        Gate::Passed => answer_of(look_at(queue::open(fifo), ring, cp, draw)),
+        Gate::Passed => answer_of(unit::look_at(cursor::open(fifo), ring, cp, draw)),
     }
 }

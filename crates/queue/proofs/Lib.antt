@@ -4,4 +4,3 @@ pub mod Stretches
 pub mod FeedLaws
 pub mod Cut
 pub mod Feeds
-pub mod CursorLaws

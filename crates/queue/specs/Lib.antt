@@ -1,5 +1,3 @@
 pub mod Pending
 pub mod Feeding
-pub mod Cursor
 pub mod Promises
-pub mod Inner

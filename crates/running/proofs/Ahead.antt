@@ -8,9 +8,9 @@ use lib.ListN.{length}
 use Rattle.octets.proofs.Number.{Octets}
 use Rattle.command.specs.Command.{unit}
 use Rattle.command.specs.declared.Draw.{Draw}
-use Rattle.queue.specs.declared.Cursor.{Cursor}
+use Rattle.cursor.specs.declared.Cursor.{Cursor}
 use Rattle.fifo.specs.Window.{consume}
-use Rattle.queue.specs.Cursor.{opened}
+use Rattle.cursor.specs.Cursor.{opened}
 use Rattle.machine.specs.State.{State}
 use Rattle.processor.specs.Step.{lookAt, executed}
 use Rattle.running.specs.Run.{Ended, goneOn, steps}

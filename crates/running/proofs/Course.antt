@@ -9,16 +9,17 @@ use Rattle.octets.proofs.Number.{Octets}
 use Rattle.command.specs.declared.Draw.{Draw}
 use Rattle.command.specs.Command.{Found, unit, waiting, refused}
 use Rattle.command.specs.Prefix.{NoUnit}
-use Rattle.queue.specs.declared.Cursor.{Cursor}
+use Rattle.cursor.specs.declared.Cursor.{Cursor}
 use Rattle.fifo.specs.declared.Fifo.{Fifo}
 use Rattle.fifo.specs.Window.{consume}
-use Rattle.queue.specs.Cursor.{opened, closed}
-use Rattle.queue.proofs.CursorLaws.{reads-pending}
+use Rattle.cursor.specs.Cursor.{opened, closed}
+use Rattle.cursor.proofs.CursorLaws.{reads-pending}
 use Rattle.queue.proofs.Moves.{consume-none, consume-consume}
-use Rattle.processor.specs.declared.StepAnswer.{StepAnswer}
+use Rattle.unit.specs.declared.StepAnswer.{StepAnswer}
 use Rattle.machine.specs.State.{State}
 use Rattle.machine.specs.Gate.{gateOf}
-use Rattle.processor.specs.Step.{meaning, lookAt, executed, after, stepOf}
+use Rattle.unit.specs.Answers.{meaning}
+use Rattle.processor.specs.Step.{lookAt, executed, after, stepOf}
 use Rattle.running.specs.Run.{Taken, Ended, stopOf, goneOn, steps, Arrives}
 use Rattle.machine.proofs.Passing.{Passes, gate-passes, passes-gate}
 use Rattle.processor.proofs.Bridge.{TakesUnit}

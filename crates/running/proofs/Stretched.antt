@@ -16,19 +16,19 @@ use Rattle.walk.specs.Flat.{Core, coreOf, coreAfter, flatFound}
 use Rattle.walk.specs.Walk.{Walk, TakesMany}
 use Rattle.walk.proofs.Reading.{fair}
 use Rattle.fifo.specs.declared.Fifo.{Fifo}
-use Rattle.queue.specs.declared.Cursor.{Cursor}
+use Rattle.cursor.specs.declared.Cursor.{Cursor}
 use Rattle.fifo.specs.Window.{consume, countOf}
 use Rattle.queue.specs.Pending.{pending}
-use Rattle.queue.specs.Cursor.{opened, skipped, straightBy}
-use Rattle.queue.proofs.CursorLaws.{straight-true, reads-pending}
+use Rattle.cursor.specs.Cursor.{opened, skipped, straightBy}
+use Rattle.cursor.proofs.CursorLaws.{straight-true, reads-pending}
 use Rattle.queue.proofs.Moves.{consume-consume}
 use Rattle.queue.proofs.Pending.{length-pending}
 use Rattle.machine.specs.State.{State}
 use Rattle.processor.specs.Step.{queueOf, lookAt, executed}
-use Rattle.processor.specs.declared.StepAnswer.{StepAnswer}
-use Rattle.processor.specs.Cursor.{seen, bytesAt, Takes}
+use Rattle.unit.specs.declared.StepAnswer.{StepAnswer}
+use Rattle.unit.specs.Cursor.{seen, bytesAt, Takes}
 use Rattle.running.specs.Stretch.{TakesStretch}
-use Rattle.processor.proofs.Bytes.{lent-is}
+use Rattle.unit.proofs.Bytes.{lent-is}
 use Rattle.machine.proofs.Passing.{Passes}
 use Rattle.processor.proofs.Bridge.{TakesUnit, takes-opened}
 use Rattle.running.proofs.Course.{Course, hereOf}

@@ -12,9 +12,9 @@ use Rattle.command.specs.Command.{unit, waiting, vertex}
 use Rattle.command.specs.Look.{vertexBytes}
 use Rattle.command.proofs.Decided.{bytes-most, looks-vertex, waits-vertex}
 use Rattle.bulk.specs.Size.{sizeTold}
-use Rattle.queue.specs.declared.Cursor.{Cursor}
-use Rattle.queue.specs.Cursor.{peeked}
-use Rattle.processor.specs.Cursor.{seen}
+use Rattle.cursor.specs.declared.Cursor.{Cursor}
+use Rattle.cursor.specs.Cursor.{peeked}
+use Rattle.unit.specs.Cursor.{seen}
 use Rattle.running.specs.Stretch.{SizeKnown}
 
 -- what is not 0 is told

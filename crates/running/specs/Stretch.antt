@@ -9,10 +9,10 @@ use Rattle.command.specs.Command.{unit, vertex}
 use Rattle.walk.specs.Flat.{coreOf}
 use Rattle.walk.specs.Walk.{TakesMany}
 use Rattle.bulk.specs.Size.{sizeTold}
-use Rattle.queue.specs.declared.Cursor.{Cursor}
-use Rattle.queue.specs.Cursor.{skipped}
-use Rattle.processor.specs.Cursor.{bytesAt, Takes}
-use Rattle.processor.specs.declared.StepAnswer.{StepAnswer}
+use Rattle.cursor.specs.declared.Cursor.{Cursor}
+use Rattle.cursor.specs.Cursor.{skipped}
+use Rattle.unit.specs.Cursor.{bytesAt, Takes}
+use Rattle.unit.specs.declared.StepAnswer.{StepAnswer}
 
 -- units off the first bytes of a cursor, and all that they leave
 pub record TakesStretch (cursor : Cursor) (ring cp bp : List ℕ) (draw : Draw) (xf buffer : List ℕ) (most : ℕ)

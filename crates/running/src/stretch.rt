@@ -1,9 +1,9 @@
 // The units that lie straight in the ring from the cursor on, taken in one call.
 use command::Draw;
-use queue::Cursor;
+use cursor::Cursor;
 ghost use mathlib.Core.Path.{_≡_};
 ghost use mathlib.Core.Bool.{true};
-ghost use Rattle.queue.specs.Cursor.{straightBy};
+ghost use Rattle.cursor.specs.Cursor.{straightBy};
 ghost use Rattle.running.specs.Stretch.{TakesStretch, SizeKnown};
 
 // What is left of the cursor and the draw, how many units were taken, and the bytes of a vertex of the draw, 0 where these are not known.
@@ -47,7 +47,7 @@ pub(crate) fn take_stretch(
     let end = at + n as usize;
     if ring.len() < end {
         return Stretch {
-            cursor: queue::skip(cursor, 0),
+            cursor: cursor::skip(cursor, 0),
             draw,
             units: 0,
             size: 0,
@@ -56,7 +56,7 @@ pub(crate) fn take_stretch(
     let many = bulk::take_straight(&ring[at..end], cp, bp, xf, buffer, draw, most);
     let left = many.draw;
     Stretch {
-        cursor: queue::skip(cursor, many.at as u32),
+        cursor: cursor::skip(cursor, many.at as u32),
         draw: left,
         units: many.units,
         size: many.size,

@@ -4,17 +4,17 @@ use crate::stretch;
 use command::Command;
 use command::Draw;
 use command::LARGEST_VERTEX;
+use cursor::Cursor;
 use fifo::Fifo;
-use processor::Moved;
-use processor::StepAnswer;
-use queue::Cursor;
+use unit::Moved;
+use unit::StepAnswer;
 ghost use mathlib.Core.Path.{_≡_};
 ghost use Prim.Native.Nat.{_≤_, min};
 ghost use lib.ListN.{length};
 ghost use Rattle.command.specs.Look.{largestVertex};
 ghost use Rattle.machine.specs.Gate.{gateBy};
-ghost use Rattle.processor.specs.Cursor.{seen, Takes};
-ghost use Rattle.processor.specs.Step.{meaning};
+ghost use Rattle.unit.specs.Cursor.{seen, Takes};
+ghost use Rattle.unit.specs.Answers.{meaning};
 ghost use Rattle.machine.specs.State.{stateOf};
 ghost use Rattle.running.specs.Stretch.{SizeKnown, TakesVertex};
 ghost use Rattle.running.specs.Run.{runLimit, stopOf, meaningOfStop, Arrives};
@@ -55,10 +55,10 @@ fn take_vertex(cursor: Cursor, ring: &[u8], draw: Draw, buffer: &mut [u8], size:
         (r .answer) (r .cursor) (r .draw) (now (buffer .exit)) ⌝ }
 {
     let mut bytes = [0u8; LARGEST_VERTEX];
-    queue::copy(cursor, ring, &mut bytes, size);
+    reading::copy(cursor, ring, &mut bytes, size);
     effect::copy_vertex(buffer, &bytes[..size as usize]);
     Moved {
-        cursor: queue::skip(cursor, size),
+        cursor: cursor::skip(cursor, size),
         draw: effect::next_draw(Command::Vertex, draw),
         answer: StepAnswer::Done {
             command: Command::Vertex,
@@ -87,10 +87,10 @@ fn take_next(
 {
     let there = cursor.left;
     let Draw::Open { .. } = draw else {
-        return processor::take_at(cursor, ring, cp, bp, draw, xf, buffer);
+        return unit::take_at(cursor, ring, cp, bp, draw, xf, buffer);
     };
     if size == 0 {
-        return processor::take_at(cursor, ring, cp, bp, draw, xf, buffer);
+        return unit::take_at(cursor, ring, cp, bp, draw, xf, buffer);
     }
     if size <= there {
         return take_vertex(cursor, ring, draw, buffer, size);
@@ -121,7 +121,7 @@ pub(crate) fn take_units(
         (meaningOfStop (r .stop)) (r .fifo) (now (cp .exit)) (now (bp .exit))
         (r .draw) (now (xf .exit)) (now (buffer .exit)) (r .units) ⌝ }
 {
-    let mut cursor = queue::open(fifo);
+    let mut cursor = cursor::open(fifo);
     let mut draw = first;
     let mut units: u32 = 0;
     loop {
@@ -131,7 +131,7 @@ pub(crate) fn take_units(
         units += ahead.units;
         if limit <= units {
             return Course {
-                fifo: queue::close(fifo, next),
+                fifo: cursor::close(fifo, next),
                 draw: open,
                 units,
                 stop: Stop::Limit,
@@ -141,7 +141,7 @@ pub(crate) fn take_units(
         let answer = moved.answer;
         let StepAnswer::Done { .. } = answer else {
             return Course {
-                fifo: queue::close(fifo, next),
+                fifo: cursor::close(fifo, next),
                 draw: open,
                 units,
                 stop: stop_for(answer),

@@ -9,7 +9,7 @@ use Rattle.command.specs.declared.Draw.the-variants.{Closed}
 use Rattle.command.specs.Command.{Found, unit, waiting, refused, loadBp}
 use Rattle.command.specs.Look.{lookOf}
 use Rattle.command.proofs.Ranges.{Ranged}
-use Rattle.queue.proofs.CursorLaws.{reads-pending}
+use Rattle.cursor.proofs.CursorLaws.{reads-pending}
 use Rattle.machine.specs.State.{State}
 use Rattle.processor.specs.Step.{queueOf, lookAt, executed, stepFound, stepOf}
 use Rattle.processor.specs.Step as S
@@ -18,11 +18,11 @@ use Rattle.machine.proofs.Passing.{Passes, passes-gate}
 use Rattle.processor.proofs.Bridge.{unit-fits}
 use Rattle.processor.proofs.Valid.{executed-passes, runs-found}
 use Rattle.history.specs.Calls.{answered, commandsIn}
-use Rattle.patch.specs.Commands.{bytesOfCommands, bpAfterAll}
-use Rattle.patch.specs.Stream.{IsLoad, AllLoads, Begins}
-use Rattle.patch.proofs.Stream.{look-either}
-use Rattle.patch.proofs.Execution.{after-append}
-use Rattle.patch.proofs.Loads.{load-cp, load-xf, load-draw}
+use Rattle.patchwriter.specs.Commands.{bytesOfCommands, bpAfterAll}
+use Rattle.patchwriter.specs.Stream.{IsLoad, AllLoads, Begins}
+use Rattle.patchwriter.proofs.Stream.{look-either}
+use Rattle.patchwriter.proofs.Execution.{after-append}
+use Rattle.patchwriter.proofs.Loads.{load-cp, load-xf, load-draw}
 
 -- from s to t, with t's ring and bytes that come later: of the loads left some were executed, those of the units answered, and the rest are
 -- still to come

@@ -1,7 +1,7 @@
 -- Demand 3, all of its parts in one theorem.
 use Rattle.patch.proofs.Algebra.{merged-assoc, merged-accepted}
-use Rattle.patch.proofs.Execution.{merged-all-accepted}
-use Rattle.patch.specs.Commands.{commandsOfAll}
+use Rattle.patchwriter.proofs.Execution.{merged-all-accepted}
+use Rattle.patchwriter.specs.Commands.{commandsOfAll}
 use Rattle.sequence.specs.Promise.{PatchesInRow}
 use Rattle.sequence.specs.Exist.{callsOf}
 use Rattle.sequence.proofs.Promise.{promise, units-answered, either-order}

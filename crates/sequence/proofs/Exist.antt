@@ -15,9 +15,9 @@ use Rattle.machine.proofs.Passing.{Passes, gate-passes, passes-gate}
 use Rattle.history.specs.Calls.{World, feed, take, queue, after, fed, afterAll, fedAll, AllListed}
 use Rattle.history.proofs.Fed.{feed-longer, runs-fed}
 use Rattle.patch.specs.Patch.{Patch, AllAccepted}
-use Rattle.patch.specs.Commands.{commandsOfAll, bytesOfCommands}
-use Rattle.patch.specs.Stream.{IsLoad, AllLoads, Begins}
-use Rattle.patch.proofs.Stream.{five-bytes, look-whole, patches-loads, patches-bytes}
+use Rattle.patchwriter.specs.Commands.{commandsOfAll, bytesOfCommands}
+use Rattle.patchwriter.specs.Stream.{IsLoad, AllLoads, Begins}
+use Rattle.patchwriter.proofs.Stream.{five-bytes, look-whole, patches-loads, patches-bytes}
 use Rattle.sequence.specs.Promise.{Start, Delivers}
 use Rattle.sequence.specs.Exist.{callsOf}
 use Rattle.sequence.proofs.Advance.{Ahead, advance-whole}

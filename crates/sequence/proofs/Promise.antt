@@ -9,7 +9,7 @@ use lib.ListN.{length, length-append}
 use Rattle.laws.proofs.Cases.{cond-both}
 use Rattle.writer.specs.Write.{commandBytes}
 use Rattle.fifo.specs.declared.Fifo.{Fifo}
-use Rattle.fifo.specs.Registers.{stored, writable, written}
+use Rattle.registers.specs.Registers.{stored, writable, written}
 use Rattle.machine.specs.Gate.{bpFits}
 use Rattle.machine.proofs.Below.{below-at}
 use Rattle.machine.proofs.Passing.{Passes, gate-passes, passes-gate}
@@ -19,10 +19,10 @@ use Rattle.history.specs.Calls.{commandsIn, Listed, AllListed}
 use Rattle.history.proofs.Fed.{feed-longer, runs-fed}
 use Rattle.patch.specs.Patch.{Patch, mergedAll}
 use Rattle.patch.specs.Registers.{Open, Agree}
-use Rattle.patch.specs.Commands.{commandsOfAll, bytesOfCommands, bpAfterAll}
-use Rattle.patch.specs.Stream.{AllLoads}
-use Rattle.patch.proofs.Stream.{five-bytes, patches-loads, patches-bytes}
-use Rattle.patch.proofs.Execution.{executed-all, merged-swap}
+use Rattle.patchwriter.specs.Commands.{commandsOfAll, bytesOfCommands, bpAfterAll}
+use Rattle.patchwriter.specs.Stream.{AllLoads}
+use Rattle.patchwriter.proofs.Stream.{five-bytes, patches-loads, patches-bytes}
+use Rattle.patchwriter.proofs.Execution.{executed-all, merged-swap}
 use Rattle.sequence.specs.Promise.{Start, Delivers, SameRegisters, RulesGive}
 use Rattle.sequence.proofs.Advance.{Advance, Ahead, advance-none, advance-same, advance-ahead, advance-then}
 use Rattle.sequence.proofs.Advance.{advance-take, advance-run}

@@ -9,7 +9,7 @@ use Rattle.processor.specs.Step.{Runnable}
 use Rattle.history.specs.Calls.{World, Call, queue, afterAll, fedAll, unitsAll, commandsIn, AllListed}
 use Rattle.patch.specs.Patch.{Patch, bpCount, IsAccepted, AllAccepted, appliedTo, mergedOf, mergedAll}
 use Rattle.patch.specs.Registers.{Agree}
-use Rattle.patch.specs.Commands.{bytesOfPatches, commandsOfAll}
+use Rattle.patchwriter.specs.Commands.{bytesOfPatches, commandsOfAll}
 use Rattle.sequence.specs.Start.{firstWorld}
 
 -- "Begin with nothing that document 01 refuses by 1, 2 or 3, an empty ring, no draw open, the mask at FFFFFF and reading allowed in

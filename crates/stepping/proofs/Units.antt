@@ -18,17 +18,18 @@ use Rattle.command.specs.declared.Draw.{Draw}
 use Rattle.command.specs.Command.{Found, unit, kindOf, numbersOf}
 use Rattle.effect.specs.Effect.{cpAfter}
 use Rattle.fifo.specs.declared.Fifo.{Fifo}
-use Rattle.processor.proofs.StepAnswer as Answers
-use Rattle.processor.specs.declared.StepAnswer.{StepAnswer}
-use Rattle.processor.specs.declared.StepAnswer.the-variants.{Done, Waiting, Refused}
+use Rattle.unit.proofs.StepAnswer as Answers
+use Rattle.unit.specs.declared.StepAnswer.{StepAnswer}
+use Rattle.unit.specs.declared.StepAnswer.the-variants.{Done, Waiting, Refused}
 use Rattle.processor.specs.declared.taking.TakenUnit.{TakenUnit}
 use Rattle.running.specs.declared.Ran.{Ran}
 use Rattle.machine.specs.State.{State, stateOf}
 use Rattle.machine.specs.Gate.{gateOf}
-use Rattle.processor.specs.Step.{meaning, executed, after, stepFound, stepOf, Steps}
+use Rattle.unit.specs.Answers.{meaning}
+use Rattle.processor.specs.Step.{executed, after, stepFound, stepOf, Steps}
 use Rattle.running.specs.Run.{Ended, ended, steps, gated, runLimit, runOf, meaningOfStop, Reports}
 use Rattle.running.proofs.Invariant.{none-run}
-use Rattle.words.specs.declared.state.Front.the-variants.{Held}
+use Rattle.words.specs.declared.Front.the-variants.{Held}
 use Rattle.words.specs.State.{cpOf, bpOf, stateAt, wordsBy}
 use Rattle.words.specs.Front.{frontOf, wordsAfterUnit}
 use Rattle.encoding.specs.Told.{firstOf, secondOf, answerNumber, Tells}

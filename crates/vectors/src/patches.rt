@@ -36,12 +36,12 @@ pub fn written() {
     b_masks[0x41] = 0xF0;
     b_numbers[0x41] = 0x30;
     let mut out = [0u8; 10];
-    let alone = patch::write(&a_masks, &a_numbers, &mut out);
+    let alone = patchwriter::write(&a_masks, &a_numbers, &mut out);
     line::write(b"bytes of F, 5 at 41: ", size(alone));
     show(out);
     let mut masks = [0u32; 256];
     let mut numbers = [0u32; 256];
-    let merged = patch::merge(
+    let merged = merging::merge(
         &a_masks,
         &a_numbers,
         &b_masks,
@@ -50,7 +50,7 @@ pub fn written() {
         &mut numbers,
     );
     line::write(b"merged with F0, 30: ", checked(merged));
-    let both = patch::write(&masks, &numbers, &mut out);
+    let both = patchwriter::write(&masks, &numbers, &mut out);
     line::write(b"bytes of the merge: ", size(both));
     show(out);
 }

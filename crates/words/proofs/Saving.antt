@@ -1,9 +1,9 @@
 -- The words of a state, stored piece by piece: those of the fifo, of the draw, the CP registers, the BP registers.
 use mathlib.Core.Path.{_≡_, refl, sym, ap, _∙_}
 use mathlib.Core.List.{List, [], _∷_, _++_, append-assoc, append-nil}
-use Prim.Native.Nat.{ℕ, _+_, _-_, _≤_}
+use Prim.Native.Nat.{ℕ, _+_, _-_}
 use native.Mathlib.Omega.{arith}
-use lib.ListN.{length, take, drop, length-append, length-drop, drop-of-length-le, take-append-drop}
+use lib.ListN.{length, take, drop, length-append, length-drop, take-append-drop}
 use lib.Seq.{drop-drop, length-take-le, take-at, drop-at, take-all}
 use types.Run.{OneOf, miss}
 use denote.Enum.Declared.{tagOf}
@@ -18,19 +18,6 @@ use Rattle.fifo.specs.declared.Fifo.{Fifo}
 use Rattle.queue.specs.Feeding.{put}
 use Rattle.words.specs.State.{cpOf, bpOf, fifoWords, drawWords, wordsBy}
 use Rattle.words.specs.Front.{wordsAfterUnit}
-
--- a list stored over all of another of its length
-pub put-whole : (d l : List ℕ) → length l ≡ length d → put d 0 l ≡ l
-put-whole d l e =
-    ap (λ (x : List ℕ). l ++ x) (drop-of-length-le d {i = 0 + length l} (omega arith)) ∙ append-nil l
-
--- as many values as another list has, from a place on, stored over all of it
-pub filled : (d l : List ℕ) (at : ℕ) {out : List ℕ} → at + length d ≤ length l → out ≡ put d 0 (take (at + length d - at) (drop at l))
-    → out ≡ take (length d) (drop at l)
-filled d l at h e =
-    let n : at + length d - at ≡ length d = omega arith in
-    let k : length (take (length d) (drop at l)) ≡ length d = length-take-le (length d) (drop at l) (omega (arith, length-drop at l)) in
-    e ∙ ap (λ (x : ℕ). put d 0 (take x (drop at l))) n ∙ put-whole d (take (length d) (drop at l)) k
 
 -- a part in the middle stored anew
 put-middle : (a old new b : List ℕ) (at : ℕ) → length a ≡ at → length old ≡ length new → put (a ++ (old ++ b)) at new ≡ a ++ (new ++ b)

@@ -6,8 +6,8 @@ use lib.Dec.{eqb, ltb}
 use lib.ListN.{getD}
 use Rattle.command.specs.declared.Draw.{Draw}
 use Rattle.fifo.specs.declared.Fifo.{Fifo}
-use Rattle.words.specs.declared.state.Front.{Front}
-use Rattle.words.specs.declared.state.Front.the-variants.{Held, Wide}
+use Rattle.words.specs.declared.Front.{Front}
+use Rattle.words.specs.declared.Front.the-variants.{Held, Wide}
 use Rattle.words.specs.State.{fifoOf, drawOf, cpOf, bpOf, wordsBy}
 
 -- control has 16 bits, and the primitive and format of an open draw have 8

@@ -24,7 +24,7 @@ use Rattle.command.specs.Look.{whole, lookCp, xfWords, xfAddress, lookXf, descr
 use Rattle.effect.specs.Effect.{masked, storedBp, loadedBp}
 use Rattle.writer.specs.Write.{headOf, wordsOf, wordBytes, commandBytes}
 use Rattle.patch.specs.Patch.{Patch, patchOf, bpCount, mergedOf}
-use Rattle.patch.specs.Commands.{commandsAt, commandsFrom, commandsOf, bytesOfCommands, patchBytes}
+use Rattle.patchwriter.specs.Commands.{commandsAt, commandsFrom, commandsOf, bytesOfCommands, patchBytes}
 use Rattle.fifo.specs.declared.Fifo.{Fifo}
 use Rattle.fifo.specs.Window.{sizeLimit, validBy, countOf as countIn}
 use Rattle.fifo.specs.Answers.{countAnswer}

@@ -4,8 +4,8 @@ use mathlib.Core.Bool.{true}
 use Prim.Native.Nat.{ℕ, _-_, _≤_}
 use native.Mathlib.Omega.{arith}
 use borrow.Author.Tests.{le-leb}
-use Rattle.queue.specs.declared.Cursor.{Cursor}
-use Rattle.queue.specs.Cursor.{straightBy}
+use Rattle.cursor.specs.declared.Cursor.{Cursor}
+use Rattle.cursor.specs.Cursor.{straightBy}
 use borrow.Author.Needs.{needs}
 use Rattle.running.proofs.stretch.reach.Statement.{statement}
 use Rattle.running.proofs.stretch.reach.Tie as tie

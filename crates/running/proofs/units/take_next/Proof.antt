@@ -1,6 +1,6 @@
 -- `running::units::take_next` meets its contract: it is `take_at`, but that nothing is looked at where the size of a vertex is known.
 use native.Mathlib.Omega.{arith}
-use Rattle.processor.proofs.Found.{takes-waiting}
+use Rattle.unit.proofs.Found.{takes-waiting}
 use Rattle.running.proofs.Unlooked.{known-most, waits-unlooked, vertex-unlooked}
 use borrow.Author.Needs.{needs}
 use Rattle.running.proofs.units.take_next.Statement.{statement}

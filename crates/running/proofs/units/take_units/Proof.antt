@@ -9,11 +9,11 @@ use borrow.Author.Needs.{needs}
 use lib.ListN.{length}
 use Rattle.running.proofs.Course.{Course, course-begins, course-goes, course-stops, course-ends}
 use Rattle.running.proofs.Stretched.{course-stretch, takes-course}
-use Rattle.processor.proofs.StepAnswer as Answers
+use Rattle.unit.proofs.StepAnswer as Answers
 use Rattle.machine.specs.State.{stateOf}
-use Rattle.processor.specs.Step.{meaning}
-use Rattle.processor.specs.declared.StepAnswer.the-variants.{Done, Waiting, Refused}
-use Rattle.processor.specs.declared.StepAnswer.{StepAnswer}
+use Rattle.unit.specs.Answers.{meaning}
+use Rattle.unit.specs.declared.StepAnswer.the-variants.{Done, Waiting, Refused}
+use Rattle.unit.specs.declared.StepAnswer.{StepAnswer}
 use Rattle.command.specs.Command.{unit}
 use Rattle.octets.proofs.Number.{Octets}
 use Rattle.running.proofs.units.take_units.Statement.{statement}

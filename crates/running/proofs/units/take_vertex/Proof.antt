@@ -2,10 +2,10 @@
 use mathlib.Core.Path.{_≡_, refl, sym, ap, _∙_}
 use lib.ListN.{take, replicate}
 use lib.Seq.{length-take-le}
-use Rattle.effect.proofs.Arms.{by-vertex}
-use Rattle.processor.specs.Cursor.{bytesAt}
-use Rattle.processor.proofs.Bytes.{copied-is}
-use Rattle.processor.proofs.Found.{takes-unit}
+use Rattle.execution.proofs.Arms.{by-vertex}
+use Rattle.unit.specs.Cursor.{bytesAt}
+use Rattle.unit.proofs.Bytes.{copied-is}
+use Rattle.unit.proofs.Found.{takes-unit}
 use borrow.Author.Needs.{needs}
 use Rattle.running.proofs.units.take_vertex.Statement.{statement}
 use Rattle.running.proofs.units.take_vertex.Tie as tie

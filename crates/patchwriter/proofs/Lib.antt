@@ -1,0 +1,4 @@
+pub mod Loads
+pub mod Writing
+pub mod Execution
+pub mod Stream
