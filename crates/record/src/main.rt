@@ -88,6 +88,7 @@ fn letter() -> u8 {
     word[0]
 }
 
+// The letter says what is done.
 fn main() {
     match letter() {
         0 => record_fresh(),

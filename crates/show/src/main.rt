@@ -61,6 +61,7 @@ fn show_recording(bytes: &[u8; 18016], got: Got) {
     summary::tell_file_end(tally, is_whole, fault);
 }
 
+// The first bytes of the input say which of the two it is.
 fn main() {
     let mut head = [0u8; 18016];
     let first = input::begin(&mut head);
