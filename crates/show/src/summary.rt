@@ -1,4 +1,5 @@
-// The lines after the last unit: what is open and what was not taken, the BP registers that changed, what was counted, and how it ended.
+// A recording's first line, and the lines after the last unit: what is open and what was not taken, the BP registers that changed, what
+// was counted, and how it ended.
 use crate::lines;
 use crate::tally;
 use crate::tally::Tally;
@@ -7,10 +8,14 @@ use crate::text::put;
 use crate::text::put_count;
 use crate::text::put_decimal;
 use crate::text::put_hex;
+use std::num::wrapping_add_u64;
 use std::num::wrapping_sub_u32;
 
 // The first BP register among the state's words.
 const BP: usize = 71;
+
+// How many bytes stand in a recording before its stream.
+const HEAD: u64 = 18016;
 
 // A draw that is open at the end: the vertices taken, and those that are left.
 fn tell_open(tally: Tally, left: u32) -> bool {
@@ -132,12 +137,26 @@ fn tell_refusal(number: u32, byte: u64) -> bool {
     text::send(&mut out, at)
 }
 
-// How it ended; `is_whole` where nothing is pending and no draw is open. A draw without a position is most often one whose registers were
-// loaded before the recording began.
-fn tell_end(tally: Tally, is_whole: bool) -> bool {
+// The end where a read fails.
+pub fn tell_unreadable() -> bool {
+    text::send_text(b"end: the input cannot be read")
+}
+
+// Where a raw stream ends for a position that is absent: most often its registers were loaded before it begins.
+pub fn tell_hint(tally: Tally) -> bool {
+    if tally.number != 9 {
+        return true;
+    }
+    text::send_text(
+        b"hint: was it cut from a running game? It starts from fresh registers here, without the loads before the cut",
+    )
+}
+
+// How it ended; `is_whole` where nothing is pending and no draw is open.
+pub fn tell_end(tally: Tally, is_whole: bool) -> bool {
     let number = tally.number;
     if number == tally::UNREADABLE {
-        return text::send_text(b"end: the input cannot be read");
+        return tell_unreadable();
     }
     if is_whole {
         return text::send_text(b"end: all read");
@@ -145,15 +164,60 @@ fn tell_end(tally: Tally, is_whole: bool) -> bool {
     if number == tally::WAITING {
         return tell_waiting(tally.lacking);
     }
-    if number == 9 {
-        text::send_text(
-            b"hint: was it cut from a running game? It starts from fresh registers here, without the loads before the cut",
-        );
-    }
     tell_refusal(number, tally.bytes)
 }
 
-// All of them, by the state as it was at the start and as it is now.
+// What is wrong with a recording, in words.
+fn put_fault(out: &mut [u8; 120], at: usize, number: u32) -> usize {
+    match number {
+        20 => put(out, at, b": a wrong count"),
+        21 => put(out, at, b": a number too wide for its register"),
+        22 => put(out, at, b": the file is too short"),
+        23 => put(out, at, b": the file is too long"),
+        _ => at,
+    }
+}
+
+// The end of a recording that is bad, with the byte where it is.
+pub fn tell_fault(number: u32, byte: u64) -> bool {
+    let mut out = [0u8; 120];
+    let at = put(&mut out, 0, b"end: bad file ");
+    let at = put_decimal(&mut out, at, number as u64);
+    let at = put(&mut out, at, b" at byte ");
+    let at = put_decimal(&mut out, at, byte);
+    let at = put_fault(&mut out, at, number);
+    text::send(&mut out, at)
+}
+
+// Where what stands behind a recording's head ends, or ought to: what comes first.
+fn rest_end(tally: Tally) -> u64 {
+    if tally.seen < tally.told {
+        return wrapping_add_u64(HEAD, tally.seen);
+    }
+    wrapping_add_u64(HEAD, tally.told)
+}
+
+// How a recording ended. What is wrong behind its head goes before what its units did.
+pub fn tell_file_end(tally: Tally, is_whole: bool, fault: u32) -> bool {
+    if (tally.number == tally::UNREADABLE) | (fault == 0) {
+        return tell_end(tally, is_whole);
+    }
+    tell_fault(fault, rest_end(tally))
+}
+
+// The first line of a recording, with the length that it tells.
+pub fn tell_start(told: u32) -> bool {
+    let mut out = [0u8; 120];
+    let at = put(
+        &mut out,
+        0,
+        b"start: the recording's registers, no draw open; stream of ",
+    );
+    let at = put_count(&mut out, at, told as u64, b" byte", b" bytes");
+    text::send(&mut out, at)
+}
+
+// What was taken, by the fresh state and the state as it is now; whether nothing is pending and no draw is open.
 pub fn tell(tally: Tally, fresh: &[u32; 327], state: &[u32; 327], ring: &[u8; 65536]) -> bool {
     let is_open = state[7] != 0;
     let is_whole = !is_open & (state[4] == state[5]);
@@ -166,5 +230,5 @@ pub fn tell(tally: Tally, fresh: &[u32; 327], state: &[u32; 327], ring: &[u8; 65
     }
     tell_registers(state, fresh);
     tell_counts(tally);
-    tell_end(tally, is_whole)
+    is_whole
 }

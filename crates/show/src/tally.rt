@@ -8,9 +8,13 @@ pub const UNREADABLE: u32 = 256;
 // Waiting, as an answer.
 pub const WAITING: u32 = 255;
 
+// The length of a raw stream, which nothing tells.
+pub const UNTOLD: u64 = u64::MAX;
+
 // Units, draw heads, vertices and bytes consumed; the no-operations at the end of these, which are not told yet; the vertices taken of the
 // last draw, and the offset of its first; the last answer's number (0 before the first and for a unit done, WAITING, else a refusal's or
-// UNREADABLE) and the bytes lacking beside it; whether reading goes on.
+// UNREADABLE) and the bytes lacking beside it; whether units are taken; how long the stream is told to be, the bytes read of it and behind
+// it, and whether the input has ended.
 pub struct Tally {
     pub units: u64,
     pub draws: u64,
@@ -22,10 +26,13 @@ pub struct Tally {
     pub number: u32,
     pub lacking: u32,
     pub goes_on: bool,
+    pub told: u64,
+    pub seen: u64,
+    pub has_ended: bool,
 }
 
-// Nothing counted.
-pub fn fresh() -> Tally {
+// Nothing counted, of a stream of so many bytes.
+pub fn fresh(told: u64) -> Tally {
     Tally {
         units: 0,
         draws: 0,
@@ -37,6 +44,9 @@ pub fn fresh() -> Tally {
         number: 0,
         lacking: 0,
         goes_on: true,
+        told,
+        seen: 0,
+        has_ended: false,
     }
 }
 
@@ -77,8 +87,41 @@ pub fn stop(tally: Tally, number: u32, lacking: u32) -> Tally {
 pub fn end_input(tally: Tally, is_failed: bool) -> Tally {
     let mut last = tally;
     last.goes_on = false;
+    last.has_ended = true;
     if is_failed {
         last.number = UNREADABLE;
     }
     last
+}
+
+// So many bytes more were read.
+pub fn see(tally: Tally, bytes: usize) -> Tally {
+    let mut next = tally;
+    next.seen = wrapping_add_u64(tally.seen, bytes as u64);
+    next
+}
+
+// How many bytes the stream still has, at most 65,535, as `io::count` takes them.
+pub fn left(tally: Tally) -> isize {
+    if tally.told < tally.seen {
+        return 0;
+    }
+    let left = tally.told - tally.seen;
+    if left < 65535 {
+        return left as isize;
+    }
+    65535
+}
+
+// How many bytes stand behind a recording's head, as far as they were read.
+pub fn rest(tally: Tally) -> usize {
+    tally.seen as usize
+}
+
+// Whether the input is read on. A raw stream is read until no unit is taken any more, a recording until its input ends or is too long;
+// where the output is closed neither is.
+pub fn reads_on(tally: Tally) -> bool {
+    let is_closed = !tally.goes_on & (tally.number == 0);
+    let is_done = !tally.goes_on & (tally.told == UNTOLD);
+    !tally.has_ended & !is_closed & !is_done & (tally.seen <= tally.told)
 }

@@ -75,17 +75,17 @@ pub fn begin(out: &mut [u8; 120], offset: u64) -> usize {
     put(out, at, b"  ")
 }
 
-// How long the line is, as `io::count` takes it.
-fn length(n: usize) -> isize {
-    if n < 120 {
+// A number of bytes as `io::count` takes it, at most 65,535.
+pub fn signed(n: usize) -> isize {
+    if n < 65535 {
         return n as isize;
     }
-    120
+    65535
 }
 
 // Writes the first n bytes; false where the output is closed, here and wherever a line is sent.
 fn write_first(out: &[u8], n: usize) -> bool {
-    let k = io::count(length(n), out);
+    let k = io::count(signed(n), out);
     io::write_all(STDOUT_FILENO, &out[..k])
 }
 

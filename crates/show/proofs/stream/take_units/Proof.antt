@@ -1,7 +1,7 @@
--- `show::take_units` meets its contract: each turn leaves one less.
+-- `show::stream::take_units` meets its contract: each turn leaves one less.
 use borrow.Author.Needs.{needs}
-use Rattle.show.proofs.take_units.Statement.{statement}
-use Rattle.show.proofs.take_units.Tie as tie
+use Rattle.show.proofs.stream.take_units.Statement.{statement}
+use Rattle.show.proofs.stream.take_units.Tie as tie
 
 abbrev Inv-loop : tie.InvT-loop
 Inv-loop state₀ ring xf₀ vertex₀ last₀ turns₀ state xf vertex last turns = Unit {0}

@@ -1,19 +1,19 @@
--- `show::read_all` meets its contract: each turn leaves one less.
+-- `show::stream::read_all` meets its contract: each turn leaves one less.
 use borrow.Author.Needs.{needs}
-use Rattle.show.proofs.read_all.Statement.{statement}
-use Rattle.show.proofs.read_all.Tie as tie
+use Rattle.show.proofs.stream.read_all.Statement.{statement}
+use Rattle.show.proofs.stream.read_all.Tie as tie
 
 abbrev Inv-loop : tie.InvT-loop
-Inv-loop state₀ ring₀ xf₀ vertex₀ tally₀ turns₀ state ring xf vertex tally turns = Unit {0}
+Inv-loop state₀ ring₀ xf₀ vertex₀ start turns₀ state ring xf vertex tally turns = Unit {0}
 
 abbrev μ-loop : tie.MeasureT-loop
-μ-loop state₀ ring₀ xf₀ vertex₀ tally₀ turns₀ state ring xf vertex tally turns = turns
-
-fresh-requires : tie.Need-fresh-requires Inv-loop μ-loop
-fresh-requires c κs = search needs
+μ-loop state₀ ring₀ xf₀ vertex₀ start turns₀ state ring xf vertex tally turns = turns
 
 loop-holds : tie.Need-loop-holds Inv-loop μ-loop
 loop-holds c = search needs
+
+reads-on-requires : tie.Need-reads-on-requires Inv-loop μ-loop
+reads-on-requires c κs = search needs
 
 read-piece-requires : tie.Need-read-piece-requires Inv-loop μ-loop
 read-piece-requires c κs = search needs
@@ -39,8 +39,8 @@ read-all-spec =
     (tie.spec
     Inv-loop
     μ-loop
-    fresh-requires
     loop-holds
+    reads-on-requires
     read-piece-requires
     sub-turns
     loop-less
