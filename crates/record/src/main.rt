@@ -35,11 +35,15 @@ fn write_recording(state: &[u32; 327], xf: &[u32; 4184], stream: &[u8]) {
     verdict::tell_written(is_begun && io::write_all(STDOUT_FILENO, stream));
 }
 
-// Records the raw stream on standard input with these registers. One that fills the buffer is too long.
+// Records the raw stream on standard input with these registers. One that fills the buffer is too long, and a recording is no raw stream.
 fn record(state: &[u32; 327], xf: &[u32; 4184], room: &mut [u8; 65536]) {
     let got = whole::fill(STDIN_FILENO, room);
     if got.is_failed {
         verdict::tell_unreadable();
+        return;
+    }
+    if whole::is_recording(room, got.count) {
+        verdict::tell_recording();
         return;
     }
     write_recording(state, xf, whole::front(room, got.count));

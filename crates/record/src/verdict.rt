@@ -20,6 +20,11 @@ pub fn tell_unreadable() {
     say(b"end: the input cannot be read\n");
 }
 
+// What was to be recorded is a recording.
+pub fn tell_recording() {
+    say(b"end: the input is a recording\n");
+}
+
 // The argument has no meaning.
 pub fn tell_unknown() {
     say(b"end: there is no such argument\n");

@@ -31,6 +31,12 @@ pub fn fill(descriptor: i32, buffer: &mut [u8]) -> Got {
     Got { count, is_failed }
 }
 
+// Whether the bytes that were read begin as a recording does, with 256, the count of its BP registers. No raw stream gets past its third
+// byte with them.
+pub fn is_recording(room: &[u8; 65536], count: usize) -> bool {
+    (count >= 4) & (room[0] == 0) & (room[1] == 0) & (room[2] == 1) & (room[3] == 0)
+}
+
 // A number of bytes as `io::count` takes it, at most 65,536.
 fn signed(n: usize) -> isize {
     if n < 65536 {
