@@ -33,8 +33,8 @@ use Rattle.recording.specs.Format.{Recording, recordingOf, headBytes, fileBytes
 use Rattle.recording.specs.Faults.{streamLimit}
 use Rattle.recording.specs.Answers.{readRefusal, contentRefusal, writeRefusal}
 use Rattle.recording.specs.Promises.{Writable}
-use Rattle.recording.proofs.Putting.{head-length}
-use Rattle.recording.proofs.Outcomes.{passes}
+use Rattle.recording.proofs.Sizes.{head-length}
+use Rattle.recording.proofs.Content.{passes}
 use Rattle.recording.proofs.Promises.{recording-promises}
 use Rattle.filing.specs.Calls.{wordsIn, LoadsInto, ReadsFile, PutsFile}
 use Rattle.duckhammock.specs.Recordings.{loadedFrom, EmptyRing, ReadAgain, RecordedPromises}

@@ -12,7 +12,8 @@ use Rattle.words.specs.State.{fifoOf, wordsBy}
 use Rattle.encoding.specs.Told.{firstOf}
 use Rattle.encoding.proofs.Refusals.{stays, first-is}
 use Rattle.recording.specs.Format.{contentOf}
-use Rattle.recording.specs.Answers.{registersIn, Loads}
+use Rattle.recording.specs.Answers.{registersIn}
+use Rattle.recordreader.specs.Reading.{Loads}
 use Rattle.filing.specs.Calls.{LoadsInto}
 
 -- an answer that is the refusal alone

@@ -2,9 +2,9 @@
 use machine::Registers;
 use recording::Fault;
 use recording::HEAD_LENGTH;
-use recording::HeadAnswer;
-use recording::ReadAnswer;
 use recording::Verdict;
+use recordreader::HeadAnswer;
+use recordreader::ReadAnswer;
 ghost use mathlib.Core.Path.{_≡_};
 ghost use Rattle.words.specs.State.{fifoOf, wordsBy};
 ghost use Rattle.recording.specs.Faults.{streamLimit, headPlace, restFault};
@@ -25,7 +25,7 @@ pub fn read(state: &mut [u32; 327], file: &[u8], xf: &mut [u32], stream: &mut [u
     ensures { λ r. ⌜ ReadsFile (now (state .entry)) (now (file .entry)) (now (xf .entry)) (now (stream .entry))
         r (now (state .exit)) (now (xf .exit)) (now (stream .exit)) ⌝ }
 {
-    let loaded = recording::read(file, xf);
+    let loaded = recordreader::read(file, xf);
     let registers = loaded.registers;
     let answer = loaded.answer;
     match answer {
@@ -43,7 +43,7 @@ pub fn read_head(state: &mut [u32; 327], head: &[u8], xf: &mut [u32], length: &m
     ensures { λ r. ⌜ ReadsHead (now (state .entry)) (now (head .entry)) (now (xf .entry)) (now (length .entry))
         r (now (state .exit)) (now (xf .exit)) (now (length .exit)) ⌝ }
 {
-    let loaded = recording::read_head(head, xf);
+    let loaded = recordreader::read_head(head, xf);
     let registers = loaded.registers;
     let answer = loaded.answer;
     match answer {
@@ -91,7 +91,7 @@ pub fn write(
 {
     let cp = words::cp(state);
     let bp = words::bp(state);
-    let answer = recording::write(&cp, &bp, xf, stream, output);
+    let answer = recordwriter::write(&cp, &bp, xf, stream, output);
     answers::tell_bytes(answer, written)
 }
 
@@ -108,6 +108,6 @@ pub fn write_head(
 {
     let cp = words::cp(state);
     let bp = words::bp(state);
-    let answer = recording::write_head(&cp, &bp, xf, stream, output);
+    let answer = recordwriter::write_head(&cp, &bp, xf, stream, output);
     answers::tell_bytes(answer, written)
 }

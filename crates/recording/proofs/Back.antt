@@ -21,8 +21,7 @@ use Rattle.recording.specs.Faults.{unlessEqual, unlessBelow, basesFrom, 
 use Rattle.recording.specs.Promises.{Writable}
 use Rattle.recording.proofs.Classes.{of-bp-count, of-bp, of-cp-count, of-plain-cp, of-base, of-stride, of-xf-count, of-xf}
 use Rattle.recording.proofs.Classes.{of-stream-count}
-use Rattle.recording.proofs.Outcomes.{passes}
-use Rattle.recording.proofs.Content.{Narrow, narrow}
+use Rattle.recording.proofs.Content.{passes, Narrow, narrow}
 
 module _ (limit : ℕ) (r : Recording) (small : limit < 2 ^ 32) (w : Writable limit r) where
   abbrev file : List ℕ

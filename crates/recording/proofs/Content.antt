@@ -7,7 +7,7 @@ use native.Mathlib.Omega.{arith}
 use lib.Dec.{ltb, leb, eqb, lit<}
 use lib.ListN.{length, getD, take, drop, length-take, length-drop}
 use lib.Seq.{getD-take, getD-drop}
-use borrow.Author.Tests.{eq-eqb, le-leb, le-ltb, ltb-true, leb-true}
+use borrow.Author.Tests.{eq-eqb, eqb-true, le-leb, le-ltb, ltb-true, leb-true}
 use Rattle.laws.proofs.Cases.{and-left, and-right}
 use Rattle.laws.proofs.Filled.{length-upTo, getD-upTo}
 use Rattle.octets.specs.BigEndian.{Octets, bigEndian, WordsFit, wordsAt}
@@ -23,9 +23,25 @@ use Rattle.recording.specs.Answers.{contentRefusal, writeRefusal}
 use Rattle.recording.specs.Promises.{Writable, writerAnswer}
 use Rattle.recording.proofs.Classes.{of-bp, of-base, of-stride, of-stream-count}
 use Rattle.recording.proofs.Sound.{SoundAt, sound, long, Clean, clean}
-use Rattle.recording.proofs.Outcomes.{Passes, passes}
 
 -- ---- a content that the writer takes
+
+-- a content that the writer's first three tests pass
+pub record Passes (limit : ℕ) (cp bp : List ℕ) (xf stream : ℕ) : Type 0 where
+  pub registers : registersFit cp bp Closed ≡ true
+  pub words : xf ≡ xfCount
+  pub short : stream ≤ limit
+
+pub passes : (limit : ℕ) (cp bp : List ℕ) (xf stream : ℕ) → contentRefusal limit cp bp xf stream ≡ 0 → Passes limit cp bp xf stream
+unfolding contentRefusal
+passes limit cp bp xf stream e = go (registersFit cp bp Closed) (eqb xf xfCount) (leb stream limit) refl refl refl e
+  where
+    go : (t u v : Bool) → registersFit cp bp Closed ≡ t → eqb xf xfCount ≡ u → leb stream limit ≡ v
+        → _≡_ {A = ℕ} (cond t (cond u (cond v 0 20) 2) 1) 0 → Passes limit cp bp xf stream
+    go false u v a b c z = absurd (omega arith)
+    go true false v a b c z = absurd (omega arith)
+    go true true false a b c z = absurd (omega arith)
+    go true true true a b c z = record { registers = a; words = eqb-true xf xfCount b; short = leb-true stream limit c }
 
 -- what its registers hold
 pub record Narrow (cp bp : List ℕ) : Type 0 where

@@ -1,8 +1,7 @@
 pub mod Classes
 pub mod Finding
-pub mod Putting
+pub mod Sizes
 pub mod Sound
-pub mod Outcomes
 pub mod Head
 pub mod Content
 pub mod Back

@@ -11,11 +11,7 @@ use Rattle.recording.specs.declared.Verdict.{Verdict}
 use Rattle.recording.specs.declared.Verdict.the-variants as verdict
 use Rattle.recording.specs.declared.Fault.{Fault}
 use Rattle.recording.specs.declared.Fault.the-variants as fault
-use Rattle.recording.specs.declared.HeadAnswer.{HeadAnswer}
-use Rattle.recording.specs.declared.HeadAnswer.the-variants as head
-use Rattle.recording.specs.declared.ReadAnswer.{ReadAnswer}
-use Rattle.recording.specs.declared.ReadAnswer.the-variants as whole
-use Rattle.recording.specs.Answers.{meaningOfVerdict, meaningOfFault, meaningOfHead, meaningOfRead}
+use Rattle.recording.specs.Answers.{meaningOfVerdict, meaningOfFault}
 
 -- number k of an answer
 abbrev nth : ℕ → List ℕ → ℕ
@@ -35,18 +31,3 @@ fault-injective (fault.At p r) (fault.At q s) e =
     let places = ap (nth 1) e in
     let reasons = number-injective r s (ap (nth 0) e) in
     λ i. fault.At (places i) (reasons i)
-
-pub head-injective : (a b : HeadAnswer) → meaningOfHead a ≡ meaningOfHead b → a ≡ b
-head-injective (head.Stream n) (head.Stream m) e = ap head.Stream (ap (nth 1) e)
-head-injective (head.Stream n) (head.Refused s) e = absurd (omega (arith, number-some s, ap (nth 0) e))
-head-injective (head.Refused r) (head.Stream m) e = absurd (omega (arith, number-some r, ap (nth 0) e))
-head-injective (head.Refused r) (head.Refused s) e = ap head.Refused (number-injective r s (ap (nth 0) e))
-
-pub read-injective : (a b : ReadAnswer) → meaningOfRead a ≡ meaningOfRead b → a ≡ b
-read-injective (whole.Stream p n) (whole.Stream q m) e =
-    let places = ap (nth 1) e in
-    let lengths = ap (nth 2) e in
-    λ i. whole.Stream (places i) (lengths i)
-read-injective (whole.Stream p n) (whole.Refused s) e = absurd (omega (arith, number-some s, ap (nth 0) e))
-read-injective (whole.Refused r) (whole.Stream q m) e = absurd (omega (arith, number-some r, ap (nth 0) e))
-read-injective (whole.Refused r) (whole.Refused s) e = ap whole.Refused (number-injective r s (ap (nth 0) e))

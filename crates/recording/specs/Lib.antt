@@ -1,5 +1,4 @@
 pub mod Format
 pub mod Faults
 pub mod Answers
-pub mod Writing
 pub mod Promises

@@ -1,17 +1,12 @@
-// A recording as one file (document 02, L1): the registers, the XF words and the stream of commands; read whole or in two parts, and
-// written.
-mod faults;
-mod reading;
-mod writing;
-
-pub use faults::check_rest;
-pub use faults::search;
-use machine::Registers;
-pub use reading::read;
-pub use reading::read_head;
+// A recording as one file (document 02, L1): its format, and the faults of a file, found at its first place. The crates `recordreader` and
+// `recordwriter` read and write it.
 use refusal::Reason;
-pub use writing::write;
-pub use writing::write_head;
+ghost use mathlib.Core.Path.{_≡_};
+ghost use mathlib.Core.Bool.{cond};
+ghost use mathlib.Core.List.{[], _∷_};
+ghost use Rattle.refusal.specs.Number.{number};
+ghost use Rattle.recording.specs.Faults.{streamLimit, faultAt, headFault, headPlace, restFault};
+ghost use Rattle.recording.specs.Answers.{meaningOfVerdict, meaningOfFault};
 
 // The longest stream.
 pub const STREAM_LIMIT: u32 = 65535;
@@ -31,26 +26,96 @@ pub enum Fault {
     At { place: u32, reason: Reason },
 }
 
-// How long the stream is, as its count tells it.
-pub enum HeadAnswer {
-    Stream(u32),
-    Refused(Reason),
+// The numbers of a file before its stream, by their place among them: the counts of CP, of XF and of the stream, the first array base and
+// the first stride, and how many there are. Number 0 is the count of BP.
+const CP_COUNT_AT: u32 = 257;
+
+const BASES_FROM: u32 = 286;
+
+const STRIDES_FROM: u32 = 302;
+
+const XF_COUNT_AT: u32 = 318;
+
+const STREAM_COUNT_AT: u32 = 4503;
+
+const NUMBERS: u32 = 4504;
+
+// Sound where a test holds, else refused for this reason.
+fn unless(holds: bool, reason: Reason) -> Verdict
+    ensures { λ r. ⌜ meaningOfVerdict r ≡ cond holds 0 (number reason) ⌝ }
+{
+    if holds {
+        return Verdict::Sound;
+    }
+    Verdict::Refused(reason)
 }
 
-// The registers of a head; beside a refusal fresh ones.
-pub struct HeadRead {
-    pub registers: Registers,
-    pub answer: HeadAnswer,
+// The fault of a number by its place: a wrong count, or a number too wide for its register.
+fn judge(k: u32, number: u32) -> Verdict
+    ensures { λ r. ⌜ meaningOfVerdict r ≡ faultAt streamLimit k number ⌝ }
+{
+    if k == 0 {
+        return unless(number == places::BP_COUNT as u32, Reason::WrongCount);
+    }
+    if k < CP_COUNT_AT {
+        return unless(number < 0x100_0000, Reason::NumberTooWide);
+    }
+    if k == CP_COUNT_AT {
+        return unless(number == places::COUNT as u32, Reason::WrongCount);
+    }
+    if k < BASES_FROM {
+        return Verdict::Sound;
+    }
+    if k < STRIDES_FROM {
+        return unless(number < 0x400_0000, Reason::NumberTooWide);
+    }
+    if k < XF_COUNT_AT {
+        return unless(number < 256, Reason::NumberTooWide);
+    }
+    if k == XF_COUNT_AT {
+        return unless(number == places::XF_COUNT, Reason::WrongCount);
+    }
+    if k < STREAM_COUNT_AT {
+        return Verdict::Sound;
+    }
+    unless(number <= STREAM_LIMIT, Reason::WrongCount)
 }
 
-// Where the stream stands in the file, and how long it is.
-pub enum ReadAnswer {
-    Stream { at: u32, length: u32 },
-    Refused(Reason),
+// Searches the numbers of a file in their order; the search ends at the first fault.
+pub fn search(file: &[u8]) -> Fault
+    ensures { λ f. ⌜ meaningOfFault f
+        ≡ headFault streamLimit (now (file .entry)) ∷ headPlace streamLimit (now (file .entry)) ∷ [] ⌝ }
+{
+    let mut k: u32 = 0;
+    let found = loop {
+        if k == NUMBERS {
+            break Fault::None;
+        }
+        let place = 4 * k;
+        if file.len() < place as usize + 4 {
+            break Fault::At {
+                place: file.len() as u32,
+                reason: Reason::FileShort,
+            };
+        }
+        let verdict = judge(k, octets::word_at(file, place));
+        if let Verdict::Refused(reason) = verdict {
+            break Fault::At { place, reason };
+        }
+        k += 1;
+    };
+    found
 }
 
-// The registers of a file; beside a refusal fresh ones.
-pub struct Loaded {
-    pub registers: Registers,
-    pub answer: ReadAnswer,
+// Whether so many bytes behind the numbers are the stream that its count tells.
+pub fn check_rest(told: u32, rest: usize) -> Verdict
+    ensures { λ r. ⌜ meaningOfVerdict r ≡ restFault told rest ⌝ }
+{
+    if rest < told as usize {
+        return Verdict::Refused(Reason::FileShort);
+    }
+    if rest > told as usize {
+        return Verdict::Refused(Reason::FileLong);
+    }
+    Verdict::Sound
 }

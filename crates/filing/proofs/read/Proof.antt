@@ -1,7 +1,7 @@
 -- `filing::read` meets its contract: registers are stored where the file is accepted, and else nothing.
 use mathlib.Core.Path.{sym, ap, _∙_}
 use Rattle.encoding.proofs.Refusals.{stays}
-use Rattle.recording.specs.Answers.{meaningOfRead}
+use Rattle.recordreader.specs.Reading.{meaningOfRead}
 use Rattle.filing.proofs.Loading.{refused-is, accepted-is, refused-into, loaded-into}
 use borrow.Author.Needs.{needs}
 use Rattle.filing.proofs.read.Statement.{statement}

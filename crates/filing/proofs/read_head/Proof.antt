@@ -2,7 +2,7 @@
 use mathlib.Core.Path.{sym, ap, _∙_}
 use Rattle.encoding.specs.Told.{firstOf}
 use Rattle.encoding.proofs.Refusals.{stays-number}
-use Rattle.recording.specs.Answers.{meaningOfHead}
+use Rattle.recordreader.specs.Reading.{meaningOfHead}
 use Rattle.filing.proofs.Loading.{refused-is, accepted-is, refused-into, loaded-into}
 use borrow.Author.Needs.{needs}
 use Rattle.filing.proofs.read_head.Statement.{statement}

@@ -1,0 +1,63 @@
+-- What the writers promise, answer by answer.
+use mathlib.Core.Path.{_≡_, sym, ap}
+use mathlib.Core.Bool.{false}
+use mathlib.Core.List.{List, [], _∷_}
+use Prim.Native.Nat.{ℕ, _+_, _<_, _≤_}
+use native.Mathlib.Omega.{arith}
+use lib.Dec.{eqb}
+use lib.ListN.{length}
+use borrow.Author.Tests.{ne-eqb, lt-ltb, le-ltb}
+use Rattle.refusal.specs.Number.{number}
+use Rattle.refusal.specs.declared.Reason.{Reason}
+use Rattle.refusal.specs.declared.Reason.the-variants.{OutputShort}
+use Rattle.refusal.proofs.Positive.{number-some}
+use Rattle.refusal.proofs.First.{or-some}
+use Rattle.writer.specs.declared.Written.the-variants as written
+use Rattle.writer.specs.Write.{placed}
+use Rattle.recording.specs.Format.{streamAt}
+use Rattle.recording.specs.Faults.{streamLimit}
+use Rattle.recording.specs.Answers.{contentRefusal, writeRefusal, headWriteRefusal}
+use Rattle.recordwriter.specs.Writing.{Writes}
+
+-- a reason's number is none for 0
+some : (n : ℕ) (r : Reason) → n ≡ number r → eqb n 0 ≡ false
+some n r e = ne-eqb n 0 (λ z. omega (arith, e, z, number-some r))
+
+module _ (bytes out : List ℕ) where
+  pub not-written : (n : ℕ) (r : Reason) → n ≡ number r → Writes n bytes out (written.Refused r) out
+  not-written n r e =
+      let f : eqb n 0 ≡ false = some n r e in
+      record { answer-is = rw f (ap (λ (k : ℕ). k ∷ []) (sym e)); out-is = rw f }
+
+  pub all-written : (n k : ℕ) (out' : List ℕ) → n ≡ 0 → k ≡ length bytes → out' ≡ placed bytes out → Writes n bytes out (written.Bytes k) out'
+  all-written n k out' e q o = record { answer-is = rw (e, q); out-is = rw e o }
+
+module _ (cp bp : List ℕ) (xf stream room : ℕ) where
+  abbrev ofContent : ℕ
+  ofContent = contentRefusal streamLimit cp bp xf stream
+
+  -- the content's refusal comes before that of the room
+  pub write-by-content : (r : Reason) → ofContent ≡ number r → writeRefusal streamLimit cp bp xf stream room ≡ number r
+  unfolding writeRefusal
+  write-by-content r e = rw e (or-some (number r) _ (number-some r))
+
+  pub head-by-content : (r : Reason) → ofContent ≡ number r → headWriteRefusal streamLimit cp bp xf stream room ≡ number r
+  unfolding headWriteRefusal
+  head-by-content r e = rw e (or-some (number r) _ (number-some r))
+
+  module _ (sound : ofContent ≡ 0) where
+    pub write-by-room : room < streamAt + stream → writeRefusal streamLimit cp bp xf stream room ≡ number OutputShort
+    unfolding writeRefusal
+    write-by-room h = rw (sound, lt-ltb room (streamAt + stream) h)
+
+    pub write-accepted : streamAt + stream ≤ room → writeRefusal streamLimit cp bp xf stream room ≡ 0
+    unfolding writeRefusal
+    write-accepted h = rw (sound, le-ltb room (streamAt + stream) h)
+
+    pub head-by-room : room < streamAt → headWriteRefusal streamLimit cp bp xf stream room ≡ number OutputShort
+    unfolding headWriteRefusal
+    head-by-room h = rw (sound, lt-ltb room streamAt h)
+
+    pub head-accepted : streamAt ≤ room → headWriteRefusal streamLimit cp bp xf stream room ≡ 0
+    unfolding headWriteRefusal
+    head-accepted h = rw (sound, le-ltb room streamAt h)
