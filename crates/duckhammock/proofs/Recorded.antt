@@ -1,5 +1,5 @@
 -- What specs/Recordings says.
-use mathlib.Core.Path.{_≡_, refl, sym, ap, _∙_, subst}
+use mathlib.Core.Path.{_≡_, sym, ap, _∙_, subst}
 use mathlib.Core.Bool.{Bool, true, false, cond}
 use mathlib.Core.List.{List, [], _∷_, _++_, append-assoc}
 use Prim.Native.Nat.{ℕ, _+_, _-_, _^_, _<_}
@@ -133,7 +133,8 @@ module _ (words xf stream : List ℕ) (long : length words ≡ 327) (fit : Words
   stream-there out =
       let head : List ℕ = headBytes (cpOf words) (bpOf words) xf (length stream) in
       let size : length head ≡ streamAt =
-      head-length (cpOf words) (bpOf words) xf (length stream) (cp-length words long) (bp-length words long) (passes streamLimit _ _ _ _ pass .words) in
+      head-length (cpOf words) (bpOf words) xf (length stream) (cp-length words long) (bp-length words long)
+      (passes streamLimit _ _ _ _ pass .words) in
       let rest : List ℕ = drop (length (head ++ stream)) out in
       ap (λ (l : List ℕ). take (length stream) l)
       (ap (λ (l : List ℕ). drop streamAt l) (append-assoc head stream rest) ∙ drop-at head (stream ++ rest) streamAt size)

@@ -36,7 +36,8 @@ pub record ReadAgain (words xf stream other out : List ℕ) (r : ℕ) (words' xf
 
 pub record RecordedPromises : Type 0 where
   -- a whole file read, or its head: the words and the XF words say the loaded state, and after a refusal the one before
-  pub after-read : (refusal : ℕ) (words file xf vertex : List ℕ) (r : ℕ) (words' xf' : List ℕ) → LoadsInto refusal words file xf r words' xf'
+  pub after-read : (refusal : ℕ) (words file xf vertex : List ℕ) (r : ℕ) (words' xf' : List ℕ)
+      → LoadsInto refusal words file xf r words' xf'
       → stateAt words' xf' vertex ≡ cond (eqb r 0) (loadedFrom words file vertex) (stateAt words xf vertex)
   -- "its stream fed to an empty ring": a ring longer than the stream takes it whole, and then the queue is the stream
   pub fed-whole : (words file xf told : List ℕ) (r : ℕ) (words' xf' told' : List ℕ) (ring : List ℕ) (s : ℕ) (words'' ring' : List ℕ)

@@ -1,4 +1,4 @@
-// The library's calls on numbers and slices under their names in C, for C and Rust to link, and for the program `show`.
+// The library's calls on numbers and slices under their names in C, for C and Rust to link, and for the programs `show` and `record`.
 // `include/duckhammock.h` says them in C's words; the crates `access`, `stepping`, `formats`, `patching` and `filing` do them.
 //
 // The state is 327 words that the caller keeps (`words`, specs/State.antt). The number returned is 0 where the call was accepted, a unit

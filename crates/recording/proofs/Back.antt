@@ -4,7 +4,6 @@ use mathlib.Core.Logic.{⊎-elim}
 use mathlib.Core.List.{List, [], _++_, append-assoc}
 use Prim.Native.Nat.{ℕ, zero, suc, _+_, _-_, _*_, _^_, _<_, _≤_}
 use native.Mathlib.Omega.{arith}
-use lib.Dec.{ltb}
 use lib.ListN.{length, getD, drop, length-append}
 use lib.Seq.{drop-at}
 use borrow.Author.Tests.{eq-eqb, lt-ltb, le-ltb, le-leb}
@@ -15,9 +14,10 @@ use Rattle.octets.proofs.Words.{length-words}
 use Rattle.octets.proofs.WordsBack.{word-there, words-there}
 use Rattle.places.specs.Places.{cpCount, bpCount, basePlace, stridePlace}
 use Rattle.command.specs.Look.{xfCount}
-use Rattle.recording.specs.Format.{Recording, section, headBytes, fileBytes, bpFrom, cpCountAt, cpFrom, xfCountAt, xfFrom}
+use Rattle.recording.specs.Format.{Recording, headBytes, fileBytes, bpFrom, cpCountAt, cpFrom, xfCountAt, xfFrom}
 use Rattle.recording.specs.Format.{streamCountAt, numberCount, streamAt, numberAt, contentOf}
-use Rattle.recording.specs.Faults.{unlessEqual, unlessBelow, basesFrom, stridesFrom, faultAt, faultFrom, headFault, restFault, fileFault}
+use Rattle.recording.specs.Faults.{unlessEqual, unlessBelow, basesFrom, stridesFrom, faultAt}
+use Rattle.recording.specs.Faults.{faultFrom, headFault, restFault, fileFault}
 use Rattle.recording.specs.Promises.{Writable}
 use Rattle.recording.proofs.Classes.{of-bp-count, of-bp, of-cp-count, of-plain-cp, of-base, of-stride, of-xf-count, of-xf}
 use Rattle.recording.proofs.Classes.{of-stream-count}
@@ -194,11 +194,13 @@ module _ (limit : ℕ) (r : Recording) (small : limit < 2 ^ 32) (w : Writable li
       let v = numberAt file k in
       ⊎-elim (λ a. let e : k ≡ 0 = omega (arith, a) in of-count k 0 bpCount (of-bp-count limit k v e) e first-count)
       (λ a. ⊎-elim (λ b. sound-bp k a b)
-      (λ b. ⊎-elim (λ c. let e : k ≡ cpCountAt = omega (arith, b, c) in of-count k cpCountAt cpCount (of-cp-count limit k v e) e second-count)
+      (λ b. ⊎-elim (λ c. let e : k ≡ cpCountAt = omega (arith, b, c) in
+      of-count k cpCountAt cpCount (of-cp-count limit k v e) e second-count)
       (λ c. ⊎-elim (λ d. of-plain-cp limit k v c d)
       (λ d. ⊎-elim (λ f. sound-base k d f)
       (λ f. ⊎-elim (λ g. sound-stride k f g)
-      (λ g. ⊎-elim (λ i. let e : k ≡ xfCountAt = omega (arith, g, i) in of-count k xfCountAt xfCount (of-xf-count limit k v e) e third-count)
+      (λ g. ⊎-elim (λ i. let e : k ≡ xfCountAt = omega (arith, g, i) in
+      of-count k xfCountAt xfCount (of-xf-count limit k v e) e third-count)
       (λ i. ⊎-elim (λ j. of-xf limit k v i j) (λ j. sound-last k (omega (arith, h, j)))
       (order k streamCountAt)) (order k xfFrom)) (order k xfCountAt)) (order k stridesFrom)) (order k basesFrom)) (order k cpFrom))
       (order k cpCountAt)) (order k bpFrom)

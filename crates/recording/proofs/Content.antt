@@ -1,6 +1,6 @@
 -- The content of a file without a fault is one that the writer takes, and a content that it takes has narrow numbers.
 use mathlib.Core.Path.{_≡_, refl, sym, ap, _∙_}
-use mathlib.Core.Bool.{Bool, true, false, cond, _&&_}
+use mathlib.Core.Bool.{Bool, true, false, cond}
 use mathlib.Core.List.{List}
 use Prim.Native.Nat.{ℕ, _+_, _-_, _*_, _^_, _<_, _≤_}
 use native.Mathlib.Omega.{arith}
@@ -17,7 +17,7 @@ use Rattle.command.specs.declared.Draw.the-variants.{Closed}
 use Rattle.command.specs.Look.{xfCount}
 use Rattle.machine.specs.Gate.{allBelow, bpFits, basesOf, stridesOf, cpFits, drawFits, registersFit}
 use Rattle.machine.proofs.Below.{below-at, below-all}
-use Rattle.recording.specs.Format.{Recording, bpFrom, cpFrom, xfFrom, streamCountAt, streamAt, numberAt, contentOf}
+use Rattle.recording.specs.Format.{bpFrom, cpFrom, xfFrom, streamCountAt, streamAt, numberAt, contentOf}
 use Rattle.recording.specs.Faults.{unlessBelow, unlessWithin, fileFault}
 use Rattle.recording.specs.Answers.{contentRefusal, writeRefusal}
 use Rattle.recording.specs.Promises.{Writable, writerAnswer}
@@ -127,11 +127,13 @@ module _ (limit : ℕ) (file : List ℕ) (o : Octets file) (e : fileFault limit 
       let b = part-below (basePlace 0) (2 ^ 26) (omega arith)
       (λ k h.
       let i = cpFrom + (basePlace 0 + k) in
-      below-by (numberAt file i) (2 ^ 26) (sym (of-base limit i (numberAt file i) (omega arith) (omega arith)) ∙ s i (omega arith) .fault)) in
+      let f = sym (of-base limit i (numberAt file i) (omega arith) (omega arith)) ∙ s i (omega arith) .fault in
+      below-by (numberAt file i) (2 ^ 26) f) in
       let t = part-below (stridePlace 0) (2 ^ 8) (omega arith)
       (λ k h.
       let i = cpFrom + (stridePlace 0 + k) in
-      below-by (numberAt file i) (2 ^ 8) (sym (of-stride limit i (numberAt file i) (omega arith) (omega arith)) ∙ s i (omega arith) .fault)) in
+      let f = sym (of-stride limit i (numberAt file i) (omega arith) (omega arith)) ∙ s i (omega arith) .fault in
+      below-by (numberAt file i) (2 ^ 8) f) in
       rw (b, t)
 
   short : length (drop streamAt file) ≤ limit

@@ -1,13 +1,12 @@
 -- The first 18,016 bytes decide alone as far as the numbers go.
-use mathlib.Core.Path.{_≡_, refl, sym, ap, ap₂, _∙_}
+use mathlib.Core.Path.{_≡_, refl, ap}
 use mathlib.Core.Logic.{⊎-elim}
-use mathlib.Core.List.{List, [], _∷_}
+use mathlib.Core.List.{List}
 use Prim.Native.Nat.{ℕ, zero, suc, _+_, _-_, _*_, _<_, _≤_}
 use native.Mathlib.Omega.{arith}
-use lib.ListN.{length, getD, take}
+use lib.ListN.{length, take}
 use lib.Seq.{getD-take, length-take-le, take-all}
 use borrow.Author.Tests.{le-ltb}
-use Rattle.laws.specs.Values.{upTo}
 use Rattle.laws.proofs.Cases.{order}
 use Rattle.laws.proofs.Front.{upTo-ext}
 use Rattle.octets.specs.BigEndian.{bigEndian, wordsAt}
@@ -15,9 +14,8 @@ use Rattle.octets.proofs.Number.{agree}
 use Rattle.places.specs.Places.{cpCount, bpCount}
 use Rattle.command.specs.declared.Draw.the-variants.{Closed}
 use Rattle.command.specs.Look.{xfCount}
-use Rattle.recording.specs.Format.{bpFrom, cpFrom, xfFrom, streamCountAt, numberCount, streamAt, numberAt, contentOf}
-use Rattle.recording.specs.Faults.{faultAt, faultFrom, placeFrom, headFault, headPlace}
-use Rattle.recording.specs.Answers.{registersIn}
+use Rattle.recording.specs.Format.{bpFrom, cpFrom, xfFrom, streamCountAt, numberCount, streamAt, contentOf}
+use Rattle.recording.specs.Faults.{faultFrom, placeFrom, headFault, headPlace}
 use Rattle.recording.specs.Promises.{HeadAlone}
 
 module _ (file : List ℕ) where

@@ -4,7 +4,6 @@ use mathlib.Core.List.{List}
 use Prim.Native.Nat.{ℕ}
 use native.Mathlib.Omega.{arith}
 use lib.ListN.{getD}
-use Rattle.refusal.specs.declared.Reason.{Reason}
 use Rattle.refusal.proofs.Injective.{number-injective}
 use Rattle.refusal.proofs.Positive.{number-some}
 use Rattle.recording.specs.declared.Verdict.{Verdict}

@@ -8,7 +8,7 @@ use lib.ListN.{length, take}
 use Rattle.refusal.specs.Number.{orElse}
 use Rattle.command.specs.Look.{xfCount}
 use Rattle.recording.specs.Format.{Recording, fileBytes, streamCountAt, streamAt, numberAt, contentOf}
-use Rattle.recording.specs.Faults.{headFault, restFault, fileFault}
+use Rattle.recording.specs.Faults.{restFault, fileFault}
 use Rattle.recording.specs.Answers.{headRefusal, readRefusal}
 use Rattle.recording.specs.Promises.{Writable, RecordingPromises}
 use Rattle.recording.proofs.Sound.{rewrites}

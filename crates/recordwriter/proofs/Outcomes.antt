@@ -29,7 +29,8 @@ module _ (bytes out : List ℕ) where
       let f : eqb n 0 ≡ false = some n r e in
       record { answer-is = rw f (ap (λ (k : ℕ). k ∷ []) (sym e)); out-is = rw f }
 
-  pub all-written : (n k : ℕ) (out' : List ℕ) → n ≡ 0 → k ≡ length bytes → out' ≡ placed bytes out → Writes n bytes out (written.Bytes k) out'
+  pub all-written : (n k : ℕ) (out' : List ℕ) → n ≡ 0 → k ≡ length bytes → out' ≡ placed bytes out
+      → Writes n bytes out (written.Bytes k) out'
   all-written n k out' e q o = record { answer-is = rw (e, q); out-is = rw e o }
 
 module _ (cp bp : List ℕ) (xf stream room : ℕ) where

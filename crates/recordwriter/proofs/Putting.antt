@@ -1,5 +1,5 @@
 -- Bytes put one after the other over an output.
-use mathlib.Core.Path.{_≡_, refl, sym, ap, ap₂, _∙_}
+use mathlib.Core.Path.{_≡_, sym, ap, ap₂, _∙_}
 use mathlib.Core.List.{List, [], _∷_, _++_, append-assoc}
 use Prim.Native.Nat.{ℕ, _+_, _-_, _*_, _≤_}
 use native.Mathlib.Omega.{arith}
@@ -9,7 +9,7 @@ use borrow.Rule.Slice.PartMut.{putMid}
 use Rattle.laws.proofs.Pieces.{lent-rest}
 use Rattle.octets.specs.BigEndian.{bytesOf, wordBytes, withWords}
 use Rattle.octets.proofs.Written.{length-bytes}
-use Rattle.octets.proofs.Words.{length-words, words-one, words-lent}
+use Rattle.octets.proofs.Words.{words-one, words-lent}
 use Rattle.places.specs.Places.{cpCount, bpCount}
 use Rattle.command.specs.Look.{xfCount}
 use Rattle.recording.specs.Format.{recordingOf, section, headBytes, fileBytes, streamAt}
@@ -71,7 +71,8 @@ module _ (cp bp xf : List ℕ) (n : ℕ) (of-cp : length cp ≡ cpCount) (of-bp 
       ∙ over-next out (section bp ++ section cp) (section xf) 0 1272 (omega arith) (omega (arith, third cp bp xf n of-cp of-bp of-xf)) in
       let four : d ≡ over out 0 (headBytes cp bp xf n) =
       s ∙ ap (λ (x : List ℕ). over x 18012 (bytesOf 4 n)) three
-      ∙ over-next out ((section bp ++ section cp) ++ section xf) (bytesOf 4 n) 0 18012 (omega arith) (omega (arith, fourth cp bp xf n of-cp of-bp of-xf))
+      ∙ over-next out ((section bp ++ section cp) ++ section xf) (bytesOf 4 n) 0 18012 (omega arith)
+      (omega (arith, fourth cp bp xf n of-cp of-bp of-xf))
       ∙ ap (over out 0) (joined cp bp xf n of-cp of-bp of-xf) in
       record { out-is = four; size = head-length cp bp xf n of-cp of-bp of-xf }
 

@@ -8,7 +8,7 @@ use native.Mathlib.Omega.{arith}
 use lib.Dec.{eqb}
 use lib.ListN.{length, getD, take, drop, length-drop, take-append-drop}
 use borrow.Author.Tests.{le-leb}
-use lib.Seq.{take-take, take-all, drop-cons, take-add, drop-drop, drop-set-add, take-suc-set}
+use lib.Seq.{take-take, take-all, drop-cons, drop-drop, drop-set-add, take-suc-set}
 use Rattle.octets.specs.BigEndian.{bigEndian, bytesOf, wordsAt}
 use Rattle.laws.specs.Values.{upTo}
 use Rattle.octets.proofs.Number.{Octets, big-lt, two-bytes}

@@ -2,17 +2,17 @@
 use mathlib.Core.Path.{_≡_, refl, sym, ap, _∙_}
 use mathlib.Core.Bool.{_&&_}
 use mathlib.Core.List.{List, [], _++_, append-nil}
-use Prim.Native.Nat.{ℕ, zero, suc, _+_, _*_, _<_, _≤_}
+use Prim.Native.Nat.{ℕ, _+_, _*_, _≤_}
 use native.Mathlib.Omega.{arith}
 use lib.Dec.{leb, eqb}
-use lib.ListN.{length, getD, take, drop, length-append}
-use lib.Seq.{take-suc, take-all}
+use lib.ListN.{length, length-append}
+use lib.Seq.{take-all}
 use borrow.Author.Tests.{not-false, eqb-true, ltb-false, le-leb}
 use Rattle.laws.proofs.Cases.{and-right}
 use Rattle.octets.specs.BigEndian.{bytesOf, WordsFit, wordsAt}
 use Rattle.command.specs.Command.{loadXf}
 use Rattle.command.specs.Look.{xfCount}
-use Rattle.effect.specs.Effect.{storedXf, loadedXf, xfAfter}
+use Rattle.effect.specs.Effect.{loadedXf, xfAfter}
 use Rattle.writer.specs.Write.{headOf, wordsOf, wordBytes, commandBytes}
 use Rattle.writable.specs.Writable.{unwritable, pastEnd}
 use Rattle.writer.specs.Again.{heldWords}

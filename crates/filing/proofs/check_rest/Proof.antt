@@ -22,7 +22,8 @@ returns c = ap meaningOfVerdict (sym (c .enum-told .given .1)) ∙ c .before .be
 
 returns-2 : tie.Need-returns-2
 returns-2 c =
-    c .refused .ensures ∙ ap meaningOfVerdict (sym (c .before .before .verdict .given .1)) ∙ c .before .before .before .before .check-rest .ensures
+    let k = c .before .before in
+    c .refused .ensures ∙ ap meaningOfVerdict (sym (k .verdict .given .1)) ∙ k .before .before .check-rest .ensures
 
 pub check-rest-spec : {M : Type 1} → statement M
 check-rest-spec =

@@ -23,7 +23,8 @@ same-length c = search needs
 returns : tie.Need-returns
 returns c =
     let w = c .before .before .before .before .write-head .ensures in
-    rw (sym (c .before .before .before .before .before .before .before .before .before .cp .ensures), sym (c .before .before .before .before .before .before .before .before .bp .ensures)) (puts _ _ _ _ _ (w .answer-is) (w .out-is) (c .tell-bytes .ensures))
+    let b = c .before .before .before .before .before .before .before .before in
+    rw (sym (b .before .cp .ensures), sym (b .bp .ensures)) (puts _ _ _ _ _ (w .answer-is) (w .out-is) (c .tell-bytes .ensures))
 
 pub write-head-spec : {M : Type 1} → statement M
 write-head-spec =

@@ -21,7 +21,9 @@ unless-requires-2 : tie.Need-unless-requires-2
 unless-requires-2 c κs = search needs
 
 returns-2 : tie.Need-returns-2
-returns-2 c = let a = c .before .before .before .args in c .unless2 .ensures ∙ sym (of-bp streamLimit (a .k) (a .number) (omega arith) (omega arith))
+returns-2 c =
+    let a = c .before .before .before .args in
+    c .unless2 .ensures ∙ sym (of-bp streamLimit (a .k) (a .number) (omega arith) (omega arith))
 
 cast-unless-2 : tie.Need-cast-unless-2
 cast-unless-2 c = search needs
@@ -30,37 +32,51 @@ unless-requires-3 : tie.Need-unless-requires-3
 unless-requires-3 c κs = search needs
 
 returns-3 : tie.Need-returns-3
-returns-3 c = let a = c .before .before .before .before .args in c .unless3 .ensures ∙ sym (of-cp-count streamLimit (a .k) (a .number) (c .before .if3 .taken))
+returns-3 c =
+    let a = c .before .before .before .before .args in
+    c .unless3 .ensures ∙ sym (of-cp-count streamLimit (a .k) (a .number) (c .before .if3 .taken))
 
 returns-4 : tie.Need-returns-4
-returns-4 c = let a = c .before .before .before .before .args in sym (of-plain-cp streamLimit (a .k) (a .number) (omega arith) (omega arith))
+returns-4 c =
+    let a = c .before .before .before .before .args in
+    sym (of-plain-cp streamLimit (a .k) (a .number) (omega arith) (omega arith))
 
 unless-requires-4 : tie.Need-unless-requires-4
 unless-requires-4 c κs = search needs
 
 returns-5 : tie.Need-returns-5
-returns-5 c = let a = c .before .before .before .before .before .before .args in c .unless4 .ensures ∙ sym (of-base streamLimit (a .k) (a .number) (omega arith) (omega arith))
+returns-5 c =
+    let a = c .before .before .before .before .before .before .args in
+    c .unless4 .ensures ∙ sym (of-base streamLimit (a .k) (a .number) (omega arith) (omega arith))
 
 unless-requires-5 : tie.Need-unless-requires-5
 unless-requires-5 c κs = search needs
 
 returns-6 : tie.Need-returns-6
-returns-6 c = let a = c .before .before .before .before .before .before .before .args in c .unless5 .ensures ∙ sym (of-stride streamLimit (a .k) (a .number) (omega arith) (omega arith))
+returns-6 c =
+    let a = c .before .before .before .before .before .before .before .args in
+    c .unless5 .ensures ∙ sym (of-stride streamLimit (a .k) (a .number) (omega arith) (omega arith))
 
 unless-requires-6 : tie.Need-unless-requires-6
 unless-requires-6 c κs = search needs
 
 returns-7 : tie.Need-returns-7
-returns-7 c = let a = c .before .before .before .before .before .before .before .before .args in c .unless6 .ensures ∙ sym (of-xf-count streamLimit (a .k) (a .number) (c .before .if7 .taken))
+returns-7 c =
+    let a = c .before .before .before .before .before .before .before .before .args in
+    c .unless6 .ensures ∙ sym (of-xf-count streamLimit (a .k) (a .number) (c .before .if7 .taken))
 
 returns-8 : tie.Need-returns-8
-returns-8 c = let a = c .before .before .before .before .before .before .before .before .args in sym (of-xf streamLimit (a .k) (a .number) (omega arith) (omega arith))
+returns-8 c =
+    let a = c .before .before .before .before .before .before .before .before .args in
+    sym (of-xf streamLimit (a .k) (a .number) (omega arith) (omega arith))
 
 unless-requires-7 : tie.Need-unless-requires-7
 unless-requires-7 c κs = search needs
 
 returns-9 : tie.Need-returns-9
-returns-9 c = let a = c .before .before .before .before .before .before .before .before .before .args in c .unless7 .ensures ∙ sym (of-stream-count streamLimit (a .k) (a .number) (omega arith))
+returns-9 c =
+    let a = c .before .before .before .before .before .before .before .before .before .args in
+    c .unless7 .ensures ∙ sym (of-stream-count streamLimit (a .k) (a .number) (omega arith))
 
 pub judge-spec : {M : Type 1} → statement M
 judge-spec =

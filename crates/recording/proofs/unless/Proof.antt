@@ -1,5 +1,4 @@
 -- `recording::unless` meets its contract: by the test.
-use borrow.Author.Needs.{needs}
 use Rattle.recording.proofs.unless.Statement.{statement}
 use Rattle.recording.proofs.unless.Tie as tie
 

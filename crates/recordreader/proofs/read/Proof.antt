@@ -1,6 +1,6 @@
 -- `recordreader::read` meets its contract: nothing is loaded before the search and the test of the rest are over.
 use borrow.Author.Needs.{needs}
-use mathlib.Core.Path.{_≡_, sym, ap, _∙_}
+use mathlib.Core.Path.{sym, ap, _∙_}
 use Prim.Native.Nat.{_-_}
 use lib.ListN.{length}
 use Rattle.recording.specs.Format.{streamAt}
@@ -34,7 +34,9 @@ returns-2 c =
     let s = c .before .before .before .before in
     let found = found-at (s .search .ensures) (c .before .before .found .given .1) in
     let a = c .before .before .before .before .before .before .before .before .args in
-    file-refused _ _ _ _ (file-by-search (a .file .now) (a .xf .now) (s .before .if1 .left) (c .before .before .found .given .0 .1 .0) found) (c .refuse2 .ensures .0) (c .refuse2 .ensures .1)
+    let reason = c .before .before .found .given .0 .1 .0 in
+    file-refused _ _ _ _ (file-by-search (a .file .now) (a .xf .now) (s .before .if1 .left) reason found)
+    (c .refuse2 .ensures .0) (c .refuse2 .ensures .1)
 
 enum-told : tie.Need-enum-told
 enum-told c = search needs
@@ -63,8 +65,11 @@ returns-3 c =
     let rest = length (a .file .now) - streamAt in
     let found = found-none (s .search .ensures) (w .before .enum-told .given .1) in
     let fault =
-    ap (λ n. restFault n rest) (sym (w .word-at .ensures)) ∙ sym (k .check-rest .ensures) ∙ ap meaningOfVerdict (c .before .before .rest .given .1) in
-    file-refused _ _ _ _ (file-by-rest (a .file .now) (a .xf .now) (s .before .if1 .left) found ∙ fault) (c .refuse3 .ensures .0) (c .refuse3 .ensures .1)
+    ap (λ n. restFault n rest) (sym (w .word-at .ensures))
+    ∙ sym (k .check-rest .ensures)
+    ∙ ap meaningOfVerdict (c .before .before .rest .given .1) in
+    file-refused _ _ _ _ (file-by-rest (a .file .now) (a .xf .now) (s .before .if1 .left) found ∙ fault)
+    (c .refuse3 .ensures .0) (c .refuse3 .ensures .1)
 
 enum-told-2 : tie.Need-enum-told-2
 enum-told-2 c = search needs
@@ -89,7 +94,8 @@ returns-4 c =
     let found = found-none (s .search .ensures) (w .before .enum-told .given .1) in
     let told = sym (k .check-rest .ensures) ∙ ap meaningOfVerdict (c .before .before .before .before .enum-told2 .given .1) in
     let none = ap (λ n. restFault n (length file - streamAt)) (sym (w .word-at .ensures)) ∙ told in
-    file-read _ _ _ _ _ (file-by-rest file (a .xf .now) (s .before .if1 .left) found ∙ none) (stream-told file (w .word-at .result) told) (l .0) (l .1)
+    file-read _ _ _ _ _ (file-by-rest file (a .xf .now) (s .before .if1 .left) found ∙ none)
+    (stream-told file (w .word-at .result) told) (l .0) (l .1)
 
 pub read-spec : {M : Type 1} → statement M
 read-spec =

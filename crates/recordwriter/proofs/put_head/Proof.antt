@@ -15,7 +15,10 @@ put-section-requires-3 : tie.Need-put-section-requires-3
 put-section-requires-3 c κs = search needs
 
 cast-put-number : tie.Need-cast-put-number
-cast-put-number c = omega (arith, c .before .before .before .before .before .before .before .before .before .before .before .before .before .before .before .before .before .pre .1 .1)
+cast-put-number c =
+    let second = c .before .before .before .before .before .before .before in
+    let first = second .before .before .before .before .before in
+    omega (arith, first .before .before .before .before .before .pre .1 .1)
 
 put-number-requires : tie.Need-put-number-requires
 put-number-requires c κs = search needs
@@ -25,9 +28,12 @@ same-length c = search needs
 
 returns : tie.Need-returns
 returns c =
-    let s = c .before .before .before .before .before .before .before .before .before .before .before .before .before .before .before .before .before .before .before .before in
-    head-put _ _ _ _ (search needs) (search needs) (s .pre .1 .0) _ _ _ _ _ (s .pre .0) (c .before .before .before .before .before .before .before .before .before .before .before .before .before .before .before .put-section .ensures)
-    (c .before .before .before .before .before .before .before .before .before .before .put-section2 .ensures) (c .before .before .before .before .before .before .put-section3 .ensures) (c .before .before .put-number .ensures)
+    let third = c .before .before .before .before .before .before in
+    let second = third .before .before .before .before in
+    let first = second .before .before .before .before .before in
+    let s = first .before .before .before .before .before in
+    head-put _ _ _ _ (search needs) (search needs) (s .pre .1 .0) _ _ _ _ _ (s .pre .0) (first .put-section .ensures)
+    (second .put-section2 .ensures) (third .put-section3 .ensures) (c .before .before .put-number .ensures)
 
 pub put-head-spec : {M : Type 1} → statement M
 put-head-spec =

@@ -23,7 +23,10 @@ same-length : tie.Need-same-length
 same-length c = search needs
 
 returns : tie.Need-returns
-returns c = let a = c .before .before .before .before .before .before .args in number-put (a .out .now) _ (a .at) (a .number) (c .before .before .before .before .before .before .pre) (c .before .before .write-words .ensures)
+returns c =
+    let s = c .before .before .before .before .before .before in
+    let a = s .args in
+    number-put (a .out .now) _ (a .at) (a .number) (s .pre) (c .before .before .write-words .ensures)
 
 pub put-number-spec : {M : Type 1} → statement M
 put-number-spec =

@@ -30,8 +30,10 @@ same-length c = search needs
 
 returns : tie.Need-returns
 returns c =
-    let a = c .before .before .before .before .before .before .before .before .before .before .args in
-    section-put (a .out .now) (c .before .before .before .before .before .before .put-number .last .0) _ (a .numbers .now) (a .at) (c .before .before .before .before .before .before .before .before .before .before .pre .0) (c .before .before .before .before .before .before .put-number .ensures)
+    let n = c .before .before .before .before .before .before in
+    let s = n .before .before .before .before in
+    let a = s .args in
+    section-put (a .out .now) (n .put-number .last .0) _ (a .numbers .now) (a .at) (s .pre .0) (n .put-number .ensures)
     (c .before .before .write-words .ensures)
 
 pub put-section-spec : {M : Type 1} → statement M

@@ -1,6 +1,6 @@
 -- `recordwriter::write` meets its contract: the head, and the stream behind it; nothing is written before all tests are passed.
 use borrow.Author.Needs.{needs}
-use mathlib.Core.Path.{_≡_, sym, ap, _∙_}
+use mathlib.Core.Path.{sym, ap, _∙_}
 use native.Mathlib.Omega.{arith}
 use lib.ListN.{length}
 use Rattle.recording.specs.Answers.{meaningOfVerdict}
@@ -55,7 +55,8 @@ copy-requires c κs = search needs
 
 cast-t19 : tie.Need-cast-t19
 cast-t19 c =
-    let e = sym (c .before .before .before .before .before .before .before .before .before .before .before .test .ensures) ∙ ap meaningOfVerdict (c .before .before .before .before .before .before .before .before .before .enum-told .given .1) in
+    let told = c .before .before .before .before .before .before .before .before .before in
+    let e = sym (told .before .before .test .ensures) ∙ ap meaningOfVerdict (told .enum-told .given .1) in
     omega (arith, passes _ _ _ _ _ e .short)
 
 same-length : tie.Need-same-length
@@ -63,7 +64,8 @@ same-length c = search needs
 
 returns-3 : tie.Need-returns-3
 returns-3 c =
-    let e = sym (c .before .before .before .before .before .before .before .before .before .before .before .test .ensures) ∙ ap meaningOfVerdict (c .before .before .before .before .before .before .before .before .before .enum-told .given .1) in
+    let told = c .before .before .before .before .before .before .before .before .before in
+    let e = sym (told .before .before .test .ensures) ∙ ap meaningOfVerdict (told .enum-told .given .1) in
     let room = c .before .before .before .before .before .before .before .before .if1 .left in
     let put = c .before .before .before .before .before .before .put-head .ensures in
     all-written _ _ _ _ _ (write-accepted _ _ _ _ _ e room) (file-length _ _ _ _ (put .size))

@@ -1,6 +1,6 @@
 -- `recordwriter::write_head` meets its contract: nothing is written before all tests are passed.
 use borrow.Author.Needs.{needs}
-use mathlib.Core.Path.{_≡_, sym, ap, _∙_}
+use mathlib.Core.Path.{sym, ap, _∙_}
 use lib.ListN.{length}
 use Rattle.recording.specs.Answers.{meaningOfVerdict}
 use Rattle.recording.proofs.Content.{passes}
@@ -43,7 +43,8 @@ same-length c = search needs
 
 returns-3 : tie.Need-returns-3
 returns-3 c =
-    let e = sym (c .before .before .before .before .before .before .before .test .ensures) ∙ ap meaningOfVerdict (c .before .before .before .before .before .enum-told .given .1) in
+    let told = c .before .before .before .before .before in
+    let e = sym (told .before .before .test .ensures) ∙ ap meaningOfVerdict (told .enum-told .given .1) in
     let put = c .before .before .put-head .ensures in
     all-written _ _ _ _ _ (head-accepted _ _ _ _ _ e (c .before .before .before .before .if1 .left)) (sym (put .size)) (put .out-is)
 

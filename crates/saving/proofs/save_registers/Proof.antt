@@ -30,7 +30,9 @@ returns c =
     let long : length l ≡ 327 = search needs in
     let n : length (a .cp .now) ≡ 60 = search needs in
     let m : length (a .bp .now) ≡ 256 = search needs in
-    let drawn = front-saved (fifoOf l) (a .draw) l long refl (c .before .before .before .before .before .before .before .before .before .draw-words .ensures) (sym (front l long)) (c .before .before .before .before .before .before .store .ensures) in
+    let put = c .before .before .before .before .before .before in
+    let draw = put .before .before .before .draw-words .ensures in
+    let drawn = front-saved (fifoOf l) (a .draw) l long refl draw (sym (front l long)) (put .store .ensures) in
     all-saved (fifoOf l) (a .draw) l long (a .cp .now) (a .bp .now) n m
     (cp-saved (fifoOf l) (a .draw) l long (a .cp .now) n drawn (c .before .before .before .store2 .ensures)) (c .store3 .ensures)
 
