@@ -1,5 +1,5 @@
 -- Feeds in a row: two straight stretches leave what storing byte after byte leaves, and a feed may be cut into pieces.
-use Prim.Native.Nat.{ℕ, suc, _+_, _-_, _<_}
+use Prim.Native.Nat.{ℕ, zero, suc, _+_, _-_, _<_}
 use mathlib.Core.Path.{_≡_, refl, sym, ap, ap₂, subst, _∙_}
 use mathlib.Core.Logic.{⊎-elim}
 use mathlib.Core.Bool.{false}
@@ -17,7 +17,9 @@ use Rattle.fifo.specs.declared.Fifo.{Fifo}
 use Rattle.fifo.specs.Window.{sizeOf, Valid, Ready, readyBy, countOf, accept, withWindow, withWrite}
 use Rattle.queue.specs.Feeding.{roomOf, put, fed, accepted, fifoAfter, ringAfter}
 use Rattle.queue.specs.Promises.{FifoRing, feedAnswer, afterFeed, placeOf, Elsewhere, nextWrite, storeOne, storeEach}
-use Rattle.queue.specs.Promises.{joined, singles, firstRefusal, feedsAnswer, afterFeeds, FeedPromises}
+use Rattle.refusal.specs.Number.{orElse}
+use Rattle.refusal.proofs.First.{or-zero}
+use Rattle.queue.specs.Promises.{joined, singles, feedsAnswer, afterFeeds, FeedPromises}
 use Rattle.fifo.proofs.WindowLaws.{ready-true, count-below}
 use Rattle.queue.proofs.Moves.{count-accept, accept-none, accept-accept, accept-straight, accept-round}
 use Rattle.queue.proofs.Stretches.{put-straight}
@@ -71,7 +73,7 @@ places-same s bytes =
 -- ---- a feed cut in two, by how far there is room
 module _ (s : FifoRing) (a b : List ℕ) where
   abbrev Cut : Type 0
-  Cut = feedAnswer s (a ++ b) ≡ firstRefusal (feedAnswer s a) (feedAnswer (afterFeed s a) b)
+  Cut = feedAnswer s (a ++ b) ≡ orElse (feedAnswer s a) (feedAnswer (afterFeed s a) b)
 
   cut-unready : readyBy (s .fifo) (length (s .ring)) ≡ false → Cut
   cut-unready e =
@@ -133,19 +135,13 @@ module _ (s : FifoRing) (a b : List ℕ) where
       (ap (λ (t : FifoRing). afterFeed t b) (after-fits s a (fit-a f (s .ring) a b both)) ∙
       after-fits (filled s a) b (fit-b f (s .ring) a b both))
 
--- of two answers whose first refusal is 0 both are 0
-no-refusal : (m n : ℕ) → firstRefusal m n ≡ 0 → (m ≡ 0) × (n ≡ 0)
-no-refusal m n =
-    cond-both (λ (x : ℕ). x ≡ 0 → (m ≡ 0) × (n ≡ 0)) (eqb m 0)
-    (λ t e. (eqb-true m 0 t, e))
-    (λ t e. absurd (eqb-false m 0 t e))
-
 pub both-accepted : (s : FifoRing) (a b : List ℕ) → feedAnswer s (a ++ b) ≡ 0 → (feedAnswer s a ≡ 0) × (feedAnswer (afterFeed s a) b ≡ 0)
-both-accepted s a b e = no-refusal (feedAnswer s a) (feedAnswer (afterFeed s a) b) (sym (cut-answer s a b) ∙ e)
+both-accepted s a b e = or-zero (feedAnswer s a) (feedAnswer (afterFeed s a) b) (sym (cut-answer s a b) ∙ e)
 
 -- an answer is the first refusal of itself and 0
-alone : (m : ℕ) → m ≡ firstRefusal m 0
-alone m = cond-both (λ (x : ℕ). m ≡ x) (eqb m 0) (λ t. eqb-true m 0 t) (λ t. refl)
+alone : (m : ℕ) → m ≡ orElse m 0
+alone zero = refl
+alone (suc m) = refl
 
 -- ---- byte after byte
 
@@ -223,7 +219,7 @@ unfolding joined feedsAnswer
 pieces-answer s p [] = ap (λ (l : List ℕ). feedAnswer s l) (append-nil p) ∙ alone (feedAnswer s p)
 pieces-answer s p (q ∷ qs) =
     cut-answer s p (joined (q ∷ qs)) ∙
-    ap (λ (n : ℕ). firstRefusal (feedAnswer s p) n) (pieces-answer (afterFeed s p) q qs)
+    ap (λ (n : ℕ). orElse (feedAnswer s p) n) (pieces-answer (afterFeed s p) q qs)
 
 pieces-after : (s : FifoRing) (p : List ℕ) (ps : List (List ℕ)) → feedAnswer s (joined (p ∷ ps)) ≡ 0
     → afterFeed s (joined (p ∷ ps)) ≡ afterFeeds s (p ∷ ps)

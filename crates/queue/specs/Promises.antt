@@ -8,6 +8,7 @@ use mathlib.Core.Bool.{cond}
 use mathlib.Core.List.{List, [], _∷_, _++_}
 use lib.Dec.{eqb}
 use lib.ListN.{length, getD, set}
+use Rattle.refusal.specs.Number.{orElse}
 use Rattle.fifo.specs.declared.Window.{Window}
 use Rattle.fifo.specs.declared.Fifo.{Fifo}
 use Rattle.fifo.specs.Window.{withWindow, withWrite, placeAfter}
@@ -57,14 +58,10 @@ unfoldable pub singles : List ℕ → List (List ℕ)
 singles [] = []
 singles (b ∷ bs) = (b ∷ []) ∷ singles bs
 
--- of two answers in a row the first that is a refusal, 0 where neither is
-abbrev pub firstRefusal : ℕ → ℕ → ℕ
-firstRefusal m n = cond (eqb m 0) n m
-
 -- the first refusal of feeds in a row, each handed what the one before it left; 0 where all are accepted
 unfoldable pub feedsAnswer : FifoRing → List (List ℕ) → ℕ
 feedsAnswer s [] = 0
-feedsAnswer s (p ∷ ps) = firstRefusal (feedAnswer s p) (feedsAnswer (afterFeed s p) ps)
+feedsAnswer s (p ∷ ps) = orElse (feedAnswer s p) (feedsAnswer (afterFeed s p) ps)
 
 -- what they leave
 unfoldable pub afterFeeds : FifoRing → List (List ℕ) → FifoRing
@@ -95,7 +92,7 @@ pub record FeedPromises : Type 0 where
   -- a refused feed leaves them as they were
   pub refused-after : (s : FifoRing) (bytes : List ℕ) → (feedAnswer s bytes ≡ 0 → ⊥) → afterFeed s bytes ≡ s
   -- a feed cut in two: its answer is the first refusal of the two, and where it is accepted they leave what it leaves
-  pub cut-answer : (s : FifoRing) (a b : List ℕ) → feedAnswer s (a ++ b) ≡ firstRefusal (feedAnswer s a) (feedAnswer (afterFeed s a) b)
+  pub cut-answer : (s : FifoRing) (a b : List ℕ) → feedAnswer s (a ++ b) ≡ orElse (feedAnswer s a) (feedAnswer (afterFeed s a) b)
   pub cut-after : (s : FifoRing) (a b : List ℕ) → feedAnswer s (a ++ b) ≡ 0 → afterFeed s (a ++ b) ≡ afterFeed (afterFeed s a) b
   -- the same of one or more pieces, of any lengths
   pub pieces-answer : (s : FifoRing) (p : List ℕ) (ps : List (List ℕ)) → feedAnswer s (joined (p ∷ ps)) ≡ feedsAnswer s (p ∷ ps)
