@@ -60,9 +60,10 @@ extern "C" {
  * DUCKHAMMOCK_STATE_WORDS.
  *
  * A word that its field cannot hold is refused by 1 (DUCKHAMMOCK_INVALID_STATE)
- * by the calls that test the field, look, take and run: a control word above 3F; a
- * BP register above FFFFFF; an array base above 3FFFFFF or stride above FF; a word
- * for the open draw that is neither 0 (none is open) nor 1; and of a draw that is
+ * by the calls that test the field, look, take and run, and of the BP registers,
+ * bases and strides those that write a recording: a control word above 3F; a BP
+ * register above FFFFFF; an array base above 3FFFFFF or stride above FF; a word for
+ * the open draw that is neither 0 (none is open) nor 1; and of a draw that is
  * open a primitive or format above 7, 0 vertices left, or more than 65,535. A
  * feed and the register calls do not test it and leave it as it is, but that a
  * write of the control register replaces its word; a status read takes any word
@@ -481,7 +482,8 @@ uint32_t duckhammock_find_recording_fault(const uint8_t *head, size_t head_len);
 /*
  * Writes a recording to the front of the output, and to *written how many bytes that
  * were, 18,016 and the stream's: 1, 2, 20, 16. Of the state only words 11 to 326 are
- * looked at, so that 1 is given for a BP register, an array base or a stride alone.
+ * looked at, so that 1 is given for a BP register, an array base or a stride alone;
+ * an open draw and what the ring holds are not recorded.
  * What is written is accepted by duckhammock_read_recording and gives the same
  * registers, XF words and stream; and an accepted file is just what is written for
  * what it holds.

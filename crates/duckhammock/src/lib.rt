@@ -5,7 +5,7 @@
 // The state is 327 words that the caller keeps (`words`, specs/State.antt). The number returned is 0 where the call was accepted, a unit
 // is told or was done or the limit was reached, 255 for waiting, and else the refusal's number. A refused or waiting call changes nothing
 // that it was lent, but that waiting tells how many bytes are lacking; a run keeps the units before the one that was refused or waits, and
-// its report is told whatever the answer.
+// its report is told whatever the answer. `duckhammock_find_recording_fault` refuses nothing, and returns a place in a file.
 ghost use mathlib.Core.Path.{_≡_};
 ghost use Rattle.patch.specs.Patch.{patchOf, faultOf};
 ghost use Rattle.running.specs.Run.{runOf};
@@ -16,7 +16,7 @@ ghost use Rattle.stepping.specs.Calls.{lentOf, Looks, TakesOne, Ends};
 ghost use Rattle.formats.specs.Formats.{LaysOut, TellsAttribute, TellsAll, KeepsBits};
 ghost use Rattle.patching.specs.Writing.{PutsCommand, PutsPatch, MergesInto};
 ghost use Rattle.recording.specs.Faults.{streamLimit, headPlace, restFault};
-ghost use Rattle.filing.specs.Calls.{ReadsFile, ReadsHead, PutsFile, PutsHead};
+ghost use Rattle.filing.specs.Calls.{LoadsFile, LoadsHead, PutsFile, PutsHead};
 
 // The fresh state.
 #[no_mangle]
@@ -216,7 +216,7 @@ pub extern "C" fn duckhammock_read_recording(
     xf: &mut [u32],
     stream: &mut [u32; 2],
 ) -> u32
-    ensures { λ r. ⌜ ReadsFile (now (state .entry)) (now (file .entry)) (now (xf .entry)) (now (stream .entry))
+    ensures { λ r. ⌜ LoadsFile (now (state .entry)) (now (file .entry)) (now (xf .entry)) (now (stream .entry))
         r (now (state .exit)) (now (xf .exit)) (now (stream .exit)) ⌝ }
 {
     filing::read(state, file, xf, stream)
@@ -230,7 +230,7 @@ pub extern "C" fn duckhammock_read_recording_head(
     xf: &mut [u32],
     length: &mut u32,
 ) -> u32
-    ensures { λ r. ⌜ ReadsHead (now (state .entry)) (now (head .entry)) (now (xf .entry)) (now (length .entry))
+    ensures { λ r. ⌜ LoadsHead (now (state .entry)) (now (head .entry)) (now (xf .entry)) (now (length .entry))
         r (now (state .exit)) (now (xf .exit)) (now (length .exit)) ⌝ }
 {
     filing::read_head(state, head, xf, length)

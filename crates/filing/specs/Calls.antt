@@ -8,9 +8,9 @@ use lib.ListN.{length}
 use Rattle.command.specs.declared.Draw.the-variants.{Closed}
 use Rattle.words.specs.State.{fifoOf, cpOf, bpOf, wordsBy}
 use Rattle.answers.specs.Counting.{PutsBytes}
-use Rattle.recording.specs.Format.{recordingOf, headBytes, fileBytes, streamCountAt, streamAt, numberAt, contentOf}
+use Rattle.recording.specs.Format.{recordingOf, headBytes, fileBytes, streamCountAt, streamAt, fileNumber, contentOf}
 use Rattle.recording.specs.Faults.{streamLimit}
-use Rattle.recording.specs.Answers.{headRefusal, readRefusal, writeRefusal, headWriteRefusal}
+use Rattle.recording.specs.Answers.{headRefusal, readRefusal, recordRefusal, headRecordRefusal}
 
 -- the registers of a file in the state's words, with no draw open: the window and the control word stay, "pointers as the caller sets them"
 abbrev pub wordsIn : List ℕ → List ℕ → List ℕ
@@ -23,23 +23,23 @@ pub record LoadsInto (refusal : ℕ) (words file xf : List ℕ) (r : ℕ) (words
   pub xf-is : xf' ≡ cond (eqb r 0) (contentOf file .xf) xf
 
 -- a whole file read: where its stream stands, and how long it is
-pub record ReadsFile (words file xf stream : List ℕ) (r : ℕ) (words' xf' stream' : List ℕ) : Type 0 where
+pub record LoadsFile (words file xf stream : List ℕ) (r : ℕ) (words' xf' stream' : List ℕ) : Type 0 where
   pub loads : LoadsInto (readRefusal streamLimit file (length xf)) words file xf r words' xf'
   pub stream-is : stream' ≡ cond (eqb r 0) (streamAt ∷ length (contentOf file .stream) ∷ []) stream
 
 -- a head read: how long its stream is
-pub record ReadsHead (words file xf : List ℕ) (told r : ℕ) (words' xf' : List ℕ) (told' : ℕ) : Type 0 where
+pub record LoadsHead (words file xf : List ℕ) (told r : ℕ) (words' xf' : List ℕ) (told' : ℕ) : Type 0 where
   pub loads : LoadsInto (headRefusal streamLimit file (length xf)) words file xf r words' xf'
-  pub told-is : told' ≡ cond (eqb r 0) (numberAt file streamCountAt) told
+  pub told-is : told' ≡ cond (eqb r 0) (fileNumber file streamCountAt) told
 
 -- a whole file written, of the registers that the state's words hold
 abbrev pub PutsFile : List ℕ → List ℕ → List ℕ → List ℕ → ℕ → ℕ → List ℕ → ℕ → Type 0
 PutsFile words xf stream out count r out' count' =
-    PutsBytes (writeRefusal streamLimit (cpOf words) (bpOf words) (length xf) (length stream) (length out))
+    PutsBytes (recordRefusal streamLimit (cpOf words) (bpOf words) (length xf) (length stream) (length out))
     (fileBytes (recordingOf (cpOf words) (bpOf words) xf stream)) out count r out' count'
 
 -- a head written, for a stream of n bytes
 abbrev pub PutsHead : List ℕ → List ℕ → ℕ → List ℕ → ℕ → ℕ → List ℕ → ℕ → Type 0
 PutsHead words xf n out count r out' count' =
-    PutsBytes (headWriteRefusal streamLimit (cpOf words) (bpOf words) (length xf) n (length out)) (headBytes (cpOf words) (bpOf words) xf n)
-    out count r out' count'
+    PutsBytes (headRecordRefusal streamLimit (cpOf words) (bpOf words) (length xf) n (length out))
+    (headBytes (cpOf words) (bpOf words) xf n) out count r out' count'

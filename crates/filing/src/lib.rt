@@ -8,7 +8,7 @@ use recordreader::ReadAnswer;
 ghost use mathlib.Core.Path.{_≡_};
 ghost use Rattle.words.specs.State.{fifoOf, wordsBy};
 ghost use Rattle.recording.specs.Faults.{streamLimit, headPlace, restFault};
-ghost use Rattle.filing.specs.Calls.{ReadsFile, ReadsHead, PutsFile, PutsHead};
+ghost use Rattle.filing.specs.Calls.{LoadsFile, LoadsHead, PutsFile, PutsHead};
 
 // Stores registers in the state's words; the window and the control word stay.
 fn save(state: &mut [u32; 327], registers: Registers)
@@ -22,7 +22,7 @@ fn save(state: &mut [u32; 327], registers: Registers)
 
 // Reads a whole file: the registers, with no draw open, the XF words, where the stream stands and how long it is.
 pub fn read(state: &mut [u32; 327], file: &[u8], xf: &mut [u32], stream: &mut [u32; 2]) -> u32
-    ensures { λ r. ⌜ ReadsFile (now (state .entry)) (now (file .entry)) (now (xf .entry)) (now (stream .entry))
+    ensures { λ r. ⌜ LoadsFile (now (state .entry)) (now (file .entry)) (now (xf .entry)) (now (stream .entry))
         r (now (state .exit)) (now (xf .exit)) (now (stream .exit)) ⌝ }
 {
     let loaded = recordreader::read(file, xf);
@@ -40,7 +40,7 @@ pub fn read(state: &mut [u32; 327], file: &[u8], xf: &mut [u32], stream: &mut [u
 
 // Reads the first 18,016 bytes of a file so, and tells how long its stream is.
 pub fn read_head(state: &mut [u32; 327], head: &[u8], xf: &mut [u32], length: &mut u32) -> u32
-    ensures { λ r. ⌜ ReadsHead (now (state .entry)) (now (head .entry)) (now (xf .entry)) (now (length .entry))
+    ensures { λ r. ⌜ LoadsHead (now (state .entry)) (now (head .entry)) (now (xf .entry)) (now (length .entry))
         r (now (state .exit)) (now (xf .exit)) (now (length .exit)) ⌝ }
 {
     let loaded = recordreader::read_head(head, xf);

@@ -1,4 +1,4 @@
--- "All multi-byte numbers in the stream are big-endian."
+-- "All multi-byte numbers in the stream are big-endian." Of a recording: "Counts and numbers are 4 bytes, big-endian" (document 02, L1).
 use mathlib.Core.Bool.{cond}
 use mathlib.Core.List.{List, [], _∷_, _++_}
 use Prim.Native.Nat.{ℕ, zero, suc, _+_, _*_, _/_, _%_, _^_, _<_}

@@ -15,15 +15,15 @@ use Rattle.octets.proofs.WordsBack.{word-there, words-there}
 use Rattle.places.specs.Places.{cpCount, bpCount, basePlace, stridePlace}
 use Rattle.command.specs.Look.{xfCount}
 use Rattle.recording.specs.Format.{Recording, headBytes, fileBytes, bpFrom, cpCountAt, cpFrom, xfCountAt, xfFrom}
-use Rattle.recording.specs.Format.{streamCountAt, numberCount, streamAt, numberAt, contentOf}
-use Rattle.recording.specs.Faults.{unlessEqual, unlessBelow, basesFrom, stridesFrom, faultAt}
-use Rattle.recording.specs.Faults.{faultFrom, headFault, restFault, fileFault}
-use Rattle.recording.specs.Promises.{Writable}
+use Rattle.recording.specs.Format.{streamCountAt, numberCount, streamAt, fileNumber, contentOf}
+use Rattle.recording.specs.Faults.{unlessEqual, unlessBelow, basesFrom, stridesFrom, numberFault}
+use Rattle.recording.specs.Faults.{firstFault, headFault, restFault, fileFault}
+use Rattle.recording.specs.Promises.{Recordable}
 use Rattle.recording.proofs.Classes.{of-bp-count, of-bp, of-cp-count, of-plain-cp, of-base, of-stride, of-xf-count, of-xf}
 use Rattle.recording.proofs.Classes.{of-stream-count}
 use Rattle.recording.proofs.Content.{passes, Narrow, narrow}
 
-module _ (limit : ℕ) (r : Recording) (small : limit < 2 ^ 32) (w : Writable limit r) where
+module _ (limit : ℕ) (r : Recording) (small : limit < 2 ^ 32) (w : Recordable limit r) where
   abbrev file : List ℕ
   file = fileBytes r
 
@@ -115,28 +115,28 @@ module _ (limit : ℕ) (r : Recording) (small : limit < 2 ^ 32) (w : Writable li
 
   -- number k, where it is word i of a section
   number-is : (x l y : List ℕ) (k i : ℕ) → file ≡ x ++ (wordBytes l ++ y) → WordsFit l → 4 * k ≡ length x + 4 * i → i < length l
-      → numberAt file k ≡ getD l i 0
+      → fileNumber file k ≡ getD l i 0
   number-is x l y k i e f q h = ap₂ (λ (z : List ℕ) (a : ℕ). bigEndian z a 4) e q ∙ word-there x l y f i h
 
   -- number k, where it is a count
-  count-is : (x l y : List ℕ) (k : ℕ) → file ≡ x ++ (count l ++ y) → length x ≡ 4 * k → length l < 2 ^ 32 → numberAt file k ≡ length l
+  count-is : (x l y : List ℕ) (k : ℕ) → file ≡ x ++ (count l ++ y) → length x ≡ 4 * k → length l < 2 ^ 32 → fileNumber file k ≡ length l
   count-is x l y k e q h = ap₂ (λ (z : List ℕ) (a : ℕ). bigEndian z a 4) e (sym q) ∙ read-back x 4 (length l) y h
 
   -- bytes of a section before its next count
   upto : (x l : List ℕ) → length (x ++ wordBytes l) ≡ length x + 4 * length l
   upto x l = omega (arith, length-append x (wordBytes l), length-words l)
 
-  first-count : numberAt file 0 ≡ bpCount
+  first-count : fileNumber file 0 ≡ bpCount
   unfolding fileBytes headBytes
   first-count = count-is [] (r .bp) (wordBytes (r .bp) ++ after-bp) 0 (simp append-assoc) refl (omega (arith, w .bp-length)) ∙ w .bp-length
 
-  second-count : numberAt file cpCountAt ≡ cpCount
+  second-count : fileNumber file cpCountAt ≡ cpCount
   unfolding fileBytes headBytes
   second-count =
       count-is (to-bp ++ wordBytes (r .bp)) (r .cp) (wordBytes (r .cp) ++ after-cp) cpCountAt (simp append-assoc)
       (omega (arith, upto to-bp (r .bp), len-bp, w .bp-length)) (omega (arith, w .cp-length)) ∙ w .cp-length
 
-  third-count : numberAt file xfCountAt ≡ xfCount
+  third-count : fileNumber file xfCountAt ≡ xfCount
   unfolding fileBytes headBytes
   third-count =
       count-is (to-cp ++ wordBytes (r .cp)) (r .xf) (wordBytes (r .xf) ++ after-xf) xfCountAt (simp append-assoc)
@@ -145,53 +145,54 @@ module _ (limit : ℕ) (r : Recording) (small : limit < 2 ^ 32) (w : Writable li
   short : length (r .stream) ≤ limit
   short = passes limit (r .cp) (r .bp) (length (r .xf)) (length (r .stream)) (w .passes) .short
 
-  last-count : numberAt file streamCountAt ≡ length (r .stream)
+  last-count : fileNumber file streamCountAt ≡ length (r .stream)
   unfolding fileBytes headBytes
   last-count =
       count-is (to-xf ++ wordBytes (r .xf)) (r .stream) (r .stream) streamCountAt (simp append-assoc)
       (omega (arith, upto to-xf (r .xf), len-xf, held)) (omega (arith, short))
 
-  bp-number : (k : ℕ) → bpFrom ≤ k → k < cpCountAt → numberAt file k ≡ getD (r .bp) (k - bpFrom) 0
+  bp-number : (k : ℕ) → bpFrom ≤ k → k < cpCountAt → fileNumber file k ≡ getD (r .bp) (k - bpFrom) 0
   bp-number k a h = number-is to-bp (r .bp) after-bp k (k - bpFrom) by-bp bp-words (omega (arith, len-bp)) (omega (arith, w .bp-length))
 
-  cp-number : (i : ℕ) → i < cpCount → numberAt file (cpFrom + i) ≡ getD (r .cp) i 0
+  cp-number : (i : ℕ) → i < cpCount → fileNumber file (cpFrom + i) ≡ getD (r .cp) i 0
   cp-number i h = number-is to-cp (r .cp) after-cp (cpFrom + i) i by-cp (w .cp-words) (omega (arith, len-cp)) (omega (arith, w .cp-length))
 
   -- ---- each number is sound
 
-  of-count : (k v n : ℕ) → faultAt limit k (numberAt file k) ≡ unlessEqual (numberAt file k) n → k ≡ v → numberAt file v ≡ n
-      → faultAt limit k (numberAt file k) ≡ 0
-  of-count k v n e q c = e ∙ rw (eq-eqb (numberAt file k) n (ap (numberAt file) q ∙ c))
+  of-count : (k v n : ℕ) → numberFault limit k (fileNumber file k) ≡ unlessEqual (fileNumber file k) n → k ≡ v → fileNumber file v ≡ n
+      → numberFault limit k (fileNumber file k) ≡ 0
+  of-count k v n e q c = e ∙ rw (eq-eqb (fileNumber file k) n (ap (fileNumber file) q ∙ c))
 
-  of-register : (k v most : ℕ) → faultAt limit k (numberAt file k) ≡ unlessBelow (numberAt file k) most → numberAt file k ≡ v → v < most
-      → faultAt limit k (numberAt file k) ≡ 0
+  of-register : (k v most : ℕ) → numberFault limit k (fileNumber file k) ≡ unlessBelow (fileNumber file k) most → fileNumber file k ≡ v
+      → v < most
+      → numberFault limit k (fileNumber file k) ≡ 0
   of-register k v most e q h = e ∙ rw (q, lt-ltb v most h)
 
-  sound-bp : (k : ℕ) → bpFrom ≤ k → k < cpCountAt → faultAt limit k (numberAt file k) ≡ 0
-  sound-bp k a h = of-register k _ (2 ^ 24) (of-bp limit k (numberAt file k) a h) (bp-number k a h) (bits .bp-bits (k - bpFrom))
+  sound-bp : (k : ℕ) → bpFrom ≤ k → k < cpCountAt → numberFault limit k (fileNumber file k) ≡ 0
+  sound-bp k a h = of-register k _ (2 ^ 24) (of-bp limit k (fileNumber file k) a h) (bp-number k a h) (bits .bp-bits (k - bpFrom))
 
-  sound-base : (k : ℕ) → basesFrom ≤ k → k < stridesFrom → faultAt limit k (numberAt file k) ≡ 0
+  sound-base : (k : ℕ) → basesFrom ≤ k → k < stridesFrom → numberFault limit k (fileNumber file k) ≡ 0
   sound-base k a h =
       let i = k - basesFrom in
       let e : k ≡ cpFrom + basePlace i = omega arith in
-      of-register k _ (2 ^ 26) (of-base limit k (numberAt file k) a h) (ap (numberAt file) e ∙ cp-number (basePlace i) (omega arith))
+      of-register k _ (2 ^ 26) (of-base limit k (fileNumber file k) a h) (ap (fileNumber file) e ∙ cp-number (basePlace i) (omega arith))
       (bits .bases i (omega arith))
 
-  sound-stride : (k : ℕ) → stridesFrom ≤ k → k < xfCountAt → faultAt limit k (numberAt file k) ≡ 0
+  sound-stride : (k : ℕ) → stridesFrom ≤ k → k < xfCountAt → numberFault limit k (fileNumber file k) ≡ 0
   sound-stride k a h =
       let i = k - stridesFrom in
       let e : k ≡ cpFrom + stridePlace i = omega arith in
-      of-register k _ (2 ^ 8) (of-stride limit k (numberAt file k) a h) (ap (numberAt file) e ∙ cp-number (stridePlace i) (omega arith))
+      of-register k _ (2 ^ 8) (of-stride limit k (fileNumber file k) a h) (ap (fileNumber file) e ∙ cp-number (stridePlace i) (omega arith))
       (bits .strides i (omega arith))
 
-  sound-last : (k : ℕ) → k ≡ streamCountAt → faultAt limit k (numberAt file k) ≡ 0
+  sound-last : (k : ℕ) → k ≡ streamCountAt → numberFault limit k (fileNumber file k) ≡ 0
   sound-last k e =
-      of-stream-count limit k (numberAt file k) (omega (arith, e))
-      ∙ rw (ap (numberAt file) e ∙ last-count, le-leb (length (r .stream)) limit short)
+      of-stream-count limit k (fileNumber file k) (omega (arith, e))
+      ∙ rw (ap (fileNumber file) e ∙ last-count, le-leb (length (r .stream)) limit short)
 
-  sound-number : (k : ℕ) → k < numberCount → faultAt limit k (numberAt file k) ≡ 0
+  sound-number : (k : ℕ) → k < numberCount → numberFault limit k (fileNumber file k) ≡ 0
   sound-number k h =
-      let v = numberAt file k in
+      let v = fileNumber file k in
       ⊎-elim (λ a. let e : k ≡ 0 = omega (arith, a) in of-count k 0 bpCount (of-bp-count limit k v e) e first-count)
       (λ a. ⊎-elim (λ b. sound-bp k a b)
       (λ b. ⊎-elim (λ c. let e : k ≡ cpCountAt = omega (arith, b, c) in
@@ -209,8 +210,8 @@ module _ (limit : ℕ) (r : Recording) (small : limit < 2 ^ 32) (w : Writable li
   file-length =
       ap (λ (l : List ℕ). length l) by-stream ∙ length-append to-stream (r .stream) ∙ ap (λ (n : ℕ). n + length (r .stream)) len-stream
 
-  clear : (n k : ℕ) → k + n ≤ numberCount → faultFrom limit file n k ≡ 0
-  unfolding faultFrom
+  clear : (n k : ℕ) → k + n ≤ numberCount → firstFault limit file n k ≡ 0
+  unfolding firstFault
   clear zero k h = refl
   clear (suc n) k h =
       rw (le-ltb (length file) (4 * k + 4) (omega (arith, file-length)), sound-number k (omega arith)) (clear n (suc k) (omega arith))

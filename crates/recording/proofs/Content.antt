@@ -17,10 +17,10 @@ use Rattle.command.specs.declared.Draw.the-variants.{Closed}
 use Rattle.command.specs.Look.{xfCount}
 use Rattle.machine.specs.Gate.{allBelow, bpFits, basesOf, stridesOf, cpFits, drawFits, registersFit}
 use Rattle.machine.proofs.Below.{below-at, below-all}
-use Rattle.recording.specs.Format.{bpFrom, cpFrom, xfFrom, streamCountAt, streamAt, numberAt, contentOf}
+use Rattle.recording.specs.Format.{bpFrom, cpFrom, xfFrom, streamCountAt, streamAt, fileNumber, contentOf}
 use Rattle.recording.specs.Faults.{unlessBelow, unlessWithin, fileFault}
-use Rattle.recording.specs.Answers.{contentRefusal, writeRefusal}
-use Rattle.recording.specs.Promises.{Writable, writerAnswer}
+use Rattle.recording.specs.Answers.{contentRefusal, recordRefusal}
+use Rattle.recording.specs.Promises.{Recordable, writerAnswer}
 use Rattle.recording.proofs.Classes.{of-bp, of-base, of-stride, of-stream-count}
 use Rattle.recording.proofs.Sound.{SoundAt, sound, long, Clean, clean}
 
@@ -96,7 +96,7 @@ module _ (limit : ℕ) (file : List ℕ) (o : Octets file) (e : fileFault limit 
   s = sound limit file (n .head-clear)
 
   -- a word of a section, by its number in the file
-  word-is : (from count k : ℕ) → k < count → getD (wordsAt file (4 * from) count) k 0 ≡ numberAt file (from + k)
+  word-is : (from count k : ℕ) → k < count → getD (wordsAt file (4 * from) count) k 0 ≡ fileNumber file (from + k)
   word-is from count k h =
       let q : 4 * from + 4 * k ≡ 4 * (from + k) = omega arith in
       getD-upTo _ count k h ∙ ap (λ (a : ℕ). bigEndian file a 4) q
@@ -108,11 +108,11 @@ module _ (limit : ℕ) (file : List ℕ) (o : Octets file) (e : fileFault limit 
       (λ k h.
       let l : k < bpCount = rw (length-upTo (λ i. bigEndian file (4 * bpFrom + 4 * i) 4) bpCount) at h in
       let i = bpFrom + k in
-      let f = sym (of-bp limit i (numberAt file i) (omega arith) (omega arith)) ∙ s i (omega arith) .fault in
-      rw (word-is bpFrom bpCount k l) (below-by (numberAt file i) (2 ^ 24) f))
+      let f = sym (of-bp limit i (fileNumber file i) (omega arith) (omega arith)) ∙ s i (omega arith) .fault in
+      rw (word-is bpFrom bpCount k l) (below-by (fileNumber file i) (2 ^ 24) f))
 
   -- sixteen CP registers from a place on, each below its limit
-  part-below : (from most : ℕ) → from + 16 ≤ cpCount → ((k : ℕ) → k < 16 → numberAt file (cpFrom + (from + k)) < most)
+  part-below : (from most : ℕ) → from + 16 ≤ cpCount → ((k : ℕ) → k < 16 → fileNumber file (cpFrom + (from + k)) < most)
       → allBelow most (take 16 (drop from cp)) ≡ true
   part-below from most room f =
       below-all most (take 16 (drop from cp))
@@ -127,18 +127,18 @@ module _ (limit : ℕ) (file : List ℕ) (o : Octets file) (e : fileFault limit 
       let b = part-below (basePlace 0) (2 ^ 26) (omega arith)
       (λ k h.
       let i = cpFrom + (basePlace 0 + k) in
-      let f = sym (of-base limit i (numberAt file i) (omega arith) (omega arith)) ∙ s i (omega arith) .fault in
-      below-by (numberAt file i) (2 ^ 26) f) in
+      let f = sym (of-base limit i (fileNumber file i) (omega arith) (omega arith)) ∙ s i (omega arith) .fault in
+      below-by (fileNumber file i) (2 ^ 26) f) in
       let t = part-below (stridePlace 0) (2 ^ 8) (omega arith)
       (λ k h.
       let i = cpFrom + (stridePlace 0 + k) in
-      let f = sym (of-stride limit i (numberAt file i) (omega arith) (omega arith)) ∙ s i (omega arith) .fault in
-      below-by (numberAt file i) (2 ^ 8) f) in
+      let f = sym (of-stride limit i (fileNumber file i) (omega arith) (omega arith)) ∙ s i (omega arith) .fault in
+      below-by (fileNumber file i) (2 ^ 8) f) in
       rw (b, t)
 
   short : length (drop streamAt file) ≤ limit
   short =
-      let told = numberAt file streamCountAt in
+      let told = fileNumber file streamCountAt in
       let f = sym (of-stream-count limit streamCountAt told (omega arith)) ∙ s streamCountAt (lit< tt) .fault in
       omega (arith, within-by told limit f, n .stream-told)
 
@@ -151,7 +151,7 @@ module _ (limit : ℕ) (file : List ℕ) (o : Octets file) (e : fileFault limit 
       let i : k < count = rw (length-upTo (λ i. bigEndian file (4 * from + 4 * i) 4) count) at h in
       rw (word-is from count k i) (big-lt file (4 * (from + k)) o 4)))
 
-  pub writable : Writable limit (contentOf file)
+  pub writable : Recordable limit (contentOf file)
   unfolding contentOf contentRefusal registersFit drawFits
   writable =
       record {
@@ -169,7 +169,7 @@ module _ (limit : ℕ) (file : List ℕ) (o : Octets file) (e : fileFault limit 
       }
 
   pub room-enough : writerAnswer limit (contentOf file) (length file) ≡ 0
-  unfolding writeRefusal contentOf
+  unfolding recordRefusal contentOf
   room-enough =
       let l : streamAt ≤ length file = long limit file (n .head-clear) in
       rw (writable .passes, le-ltb (length file) (streamAt + length (drop streamAt file)) (omega (arith, length-drop streamAt file)))

@@ -15,7 +15,7 @@ use Rattle.places.specs.Places.{cpCount, bpCount}
 use Rattle.command.specs.declared.Draw.the-variants.{Closed}
 use Rattle.command.specs.Look.{xfCount}
 use Rattle.recording.specs.Format.{bpFrom, cpFrom, xfFrom, streamCountAt, numberCount, streamAt, contentOf}
-use Rattle.recording.specs.Faults.{faultFrom, placeFrom, headFault, headPlace}
+use Rattle.recording.specs.Faults.{firstFault, firstPlace, headFault, headPlace}
 use Rattle.recording.specs.Promises.{HeadAlone}
 
 module _ (file : List ℕ) where
@@ -30,8 +30,8 @@ module _ (file : List ℕ) where
 
   -- what is found in a file that has all numbers
   long : (limit : ℕ) → streamAt ≤ length file → (n k : ℕ) → k + n ≤ numberCount
-      → (faultFrom limit front n k ≡ faultFrom limit file n k) × (placeFrom limit front n k ≡ placeFrom limit file n k)
-  unfolding faultFrom placeFrom
+      → (firstFault limit front n k ≡ firstFault limit file n k) × (firstPlace limit front n k ≡ firstPlace limit file n k)
+  unfolding firstFault firstPlace
   long limit h zero k l = (refl, refl)
   long limit h (suc n) k l =
       let t : length front ≡ streamAt = length-take-le streamAt file h in
@@ -50,10 +50,10 @@ module _ (file : List ℕ) where
   head-alone limit =
       record {
         fault =
-            ⊎-elim (λ h. ap (λ (l : List ℕ). faultFrom limit l numberCount 0) (short h))
+            ⊎-elim (λ h. ap (λ (l : List ℕ). firstFault limit l numberCount 0) (short h))
             (λ h. long limit h numberCount 0 (omega arith) .0) (order (length file) streamAt);
         place =
-            ⊎-elim (λ h. ap (λ (l : List ℕ). placeFrom limit l numberCount 0) (short h))
+            ⊎-elim (λ h. ap (λ (l : List ℕ). firstPlace limit l numberCount 0) (short h))
             (λ h. long limit h numberCount 0 (omega arith) .1) (order (length file) streamAt);
         told = word-alone (4 * streamCountAt) (omega arith);
         registers =

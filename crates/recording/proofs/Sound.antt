@@ -17,30 +17,30 @@ use Rattle.octets.proofs.WordsBack.{words-back}
 use Rattle.places.specs.Places.{cpCount, bpCount}
 use Rattle.command.specs.Look.{xfCount}
 use Rattle.recording.specs.Format.{section, headBytes, fileBytes, bpFrom, cpCountAt, cpFrom, xfCountAt, xfFrom, streamCountAt}
-use Rattle.recording.specs.Format.{numberCount, streamAt, numberAt, contentOf}
-use Rattle.recording.specs.Faults.{faultAt, faultFrom, headFault, restFault, fileFault}
+use Rattle.recording.specs.Format.{numberCount, streamAt, fileNumber, contentOf}
+use Rattle.recording.specs.Faults.{numberFault, firstFault, headFault, restFault, fileFault}
 use Rattle.recording.proofs.Classes.{of-bp-count, of-cp-count, of-xf-count}
 
 -- number k is whole, and has no fault
 pub record SoundAt (limit : ℕ) (file : List ℕ) (k : ℕ) : Type 0 where
   pub whole : 4 * k + 4 ≤ length file
-  pub fault : faultAt limit k (numberAt file k) ≡ 0
+  pub fault : numberFault limit k (fileNumber file k) ≡ 0
 
 whole-by : (t : Bool) (b : ℕ) → cond t 22 b ≡ 0 → (t ≡ false) × (b ≡ 0)
 whole-by true b e = absurd (omega (arith, e))
 whole-by false b e = (refl, e)
 
-sound-from : (limit : ℕ) (file : List ℕ) (n k : ℕ) → faultFrom limit file n k ≡ 0 → (i : ℕ) → i < n → SoundAt limit file (k + i)
-unfolding faultFrom
+sound-from : (limit : ℕ) (file : List ℕ) (n k : ℕ) → firstFault limit file n k ≡ 0 → (i : ℕ) → i < n → SoundAt limit file (k + i)
+unfolding firstFault
 sound-from limit file zero k e i h = absurd (omega (arith, h))
 sound-from limit file (suc n) k e zero h =
     let w = whole-by (ltb (length file) (4 * k + 4)) _ e in
-    let f = or-zero (faultAt limit k (numberAt file k)) _ (w .1) in
+    let f = or-zero (numberFault limit k (fileNumber file k)) _ (w .1) in
     rw (add-zero k) (record { whole = ltb-false (length file) (4 * k + 4) (w .0); fault = f .0 })
 sound-from limit file (suc n) k e (suc i) h =
     let w = whole-by (ltb (length file) (4 * k + 4)) _ e in
     let q : suc k + i ≡ k + suc i = omega arith in
-    let f = or-zero (faultAt limit k (numberAt file k)) _ (w .1) in
+    let f = or-zero (numberFault limit k (fileNumber file k)) _ (w .1) in
     subst (SoundAt limit file) q (sound-from limit file n (suc k) (f .1) i (omega arith))
 
 module _ (limit : ℕ) (file : List ℕ) (clear : headFault limit file ≡ 0) where
@@ -72,7 +72,7 @@ rest-is told rest e = go (ltb rest told) (ltb told rest) refl refl e
 -- a file without a fault has none in its head, and its stream is as long as told
 pub record Clean (limit : ℕ) (file : List ℕ) : Type 0 where
   pub head-clear : headFault limit file ≡ 0
-  pub stream-told : length (drop streamAt file) ≡ numberAt file streamCountAt
+  pub stream-told : length (drop streamAt file) ≡ fileNumber file streamCountAt
 
 pub clean : (limit : ℕ) (file : List ℕ) → fileFault limit file ≡ 0 → Clean limit file
 unfolding fileFault
@@ -80,7 +80,7 @@ clean limit file e =
     let n = or-zero (headFault limit file) _ e in
     record {
       head-clear = n .0;
-      stream-told = length-drop streamAt file ∙ rest-is (numberAt file streamCountAt) (length file - streamAt) (n .1);
+      stream-told = length-drop streamAt file ∙ rest-is (fileNumber file streamCountAt) (length file - streamAt) (n .1);
     }
 
 -- a piece and what comes after it
@@ -90,11 +90,11 @@ glue l a b {y} e =
     ap (λ (x : List ℕ). take b (drop a l) ++ x) (e ∙ d) ∙ take-append-drop b (drop a l)
 
 module _ (file : List ℕ) (o : Octets file) where
-  counted : (k v : ℕ) → 4 * k + 4 ≤ length file → v ≡ numberAt file k → bytesOf 4 v ≡ take 4 (drop (4 * k) file)
+  counted : (k v : ℕ) → 4 * k + 4 ≤ length file → v ≡ fileNumber file k → bytesOf 4 v ≡ take 4 (drop (4 * k) file)
   counted k v h q = ap (bytesOf 4) q ∙ write-back file (4 * k) 4 o h
 
   -- n numbers behind their count, number k, are a piece of the file
-  section-back : (k n : ℕ) → numberAt file k ≡ n → 4 * k + (4 + 4 * n) ≤ length file
+  section-back : (k n : ℕ) → fileNumber file k ≡ n → 4 * k + (4 + 4 * n) ≤ length file
       → section (wordsAt file (4 * k + 4) n) ≡ take (4 + 4 * n) (drop (4 * k) file)
   section-back k n e h =
       ap₂ (λ (x y : List ℕ). x ++ y)
@@ -115,11 +115,11 @@ module _ (file : List ℕ) (o : Octets file) where
       let n = clean limit file e in
       let l : streamAt ≤ length file = long limit file (n .head-clear) in
       let s = sound limit file (n .head-clear) in
-      let bp : numberAt file 0 ≡ bpCount = equal _ _ (sym (of-bp-count limit 0 (numberAt file 0) refl) ∙ s 0 (lit< tt) .fault) in
-      let cp : numberAt file cpCountAt ≡ cpCount =
-      equal _ _ (sym (of-cp-count limit cpCountAt (numberAt file cpCountAt) refl) ∙ s cpCountAt (lit< tt) .fault) in
-      let xf : numberAt file xfCountAt ≡ xfCount =
-      equal _ _ (sym (of-xf-count limit xfCountAt (numberAt file xfCountAt) refl) ∙ s xfCountAt (lit< tt) .fault) in
+      let bp : fileNumber file 0 ≡ bpCount = equal _ _ (sym (of-bp-count limit 0 (fileNumber file 0) refl) ∙ s 0 (lit< tt) .fault) in
+      let cp : fileNumber file cpCountAt ≡ cpCount =
+      equal _ _ (sym (of-cp-count limit cpCountAt (fileNumber file cpCountAt) refl) ∙ s cpCountAt (lit< tt) .fault) in
+      let xf : fileNumber file xfCountAt ≡ xfCount =
+      equal _ _ (sym (of-xf-count limit xfCountAt (fileNumber file xfCountAt) refl) ∙ s xfCountAt (lit< tt) .fault) in
       pieces (section (wordsAt file (4 * bpFrom) bpCount)) (section (wordsAt file (4 * cpFrom) cpCount))
       (section (wordsAt file (4 * xfFrom) xfCount)) (bytesOf 4 (length (drop streamAt file)))
       (section-back 0 bpCount bp (omega arith)) (section-back cpCountAt cpCount cp (omega arith))

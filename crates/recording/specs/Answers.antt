@@ -15,13 +15,15 @@ use Rattle.recording.specs.declared.Fault.the-variants as fault
 use Rattle.recording.specs.Format.{streamAt, contentOf}
 use Rattle.recording.specs.Faults.{headFault, fileFault}
 
--- ---- the numbers of an answer: 0 and what it tells, or the refusal's
+-- ---- the numbers of an answer
+
+-- of a test: 0, or the refusal's
 
 abbrev pub meaningOfVerdict : Verdict → ℕ
 meaningOfVerdict verdict.Sound = 0
 meaningOfVerdict (verdict.Refused r) = number r
 
--- of a search, the place of the fault beside it
+-- of a search: the refusal's and its place, or 0 and the place where the stream begins
 abbrev pub meaningOfFault : Fault → List ℕ
 meaningOfFault fault.None = 0 ∷ streamAt ∷ []
 meaningOfFault (fault.At place r) = number r ∷ place ∷ []
@@ -48,9 +50,9 @@ contentRefusal limit cp bp xf stream =
     cond (registersFit cp bp Closed) (cond (eqb xf xfCount) (cond (leb stream limit) 0 20) 2) 1
 
 -- "then 16": of an output of so many bytes
-unfoldable pub writeRefusal : ℕ → List ℕ → List ℕ → ℕ → ℕ → ℕ → ℕ
-writeRefusal limit cp bp xf stream room = orElse (contentRefusal limit cp bp xf stream) (cond (ltb room (streamAt + stream)) 16 0)
+unfoldable pub recordRefusal : ℕ → List ℕ → List ℕ → ℕ → ℕ → ℕ → ℕ
+recordRefusal limit cp bp xf stream room = orElse (contentRefusal limit cp bp xf stream) (cond (ltb room (streamAt + stream)) 16 0)
 
 -- the same of a head alone, for a stream of so many bytes
-unfoldable pub headWriteRefusal : ℕ → List ℕ → List ℕ → ℕ → ℕ → ℕ → ℕ
-headWriteRefusal limit cp bp xf stream room = orElse (contentRefusal limit cp bp xf stream) (cond (ltb room streamAt) 16 0)
+unfoldable pub headRecordRefusal : ℕ → List ℕ → List ℕ → ℕ → ℕ → ℕ → ℕ
+headRecordRefusal limit cp bp xf stream room = orElse (contentRefusal limit cp bp xf stream) (cond (ltb room streamAt) 16 0)

@@ -65,8 +65,8 @@ abbrev pub streamAt : ℕ
 streamAt = 4 * numberCount
 
 -- number k of a file
-abbrev pub numberAt : List ℕ → ℕ → ℕ
-numberAt file k = bigEndian file (4 * k) 4
+abbrev pub fileNumber : List ℕ → ℕ → ℕ
+fileNumber file k = bigEndian file (4 * k) 4
 
 -- ---- what the bytes of a file hold
 unfoldable pub contentOf : List ℕ → Recording

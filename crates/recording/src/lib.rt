@@ -5,7 +5,7 @@ ghost use mathlib.Core.Path.{_≡_};
 ghost use mathlib.Core.Bool.{cond};
 ghost use mathlib.Core.List.{[], _∷_};
 ghost use Rattle.refusal.specs.Number.{number};
-ghost use Rattle.recording.specs.Faults.{streamLimit, faultAt, headFault, headPlace, restFault};
+ghost use Rattle.recording.specs.Faults.{streamLimit, numberFault, headFault, headPlace, restFault};
 ghost use Rattle.recording.specs.Answers.{meaningOfVerdict, meaningOfFault};
 
 // The longest stream.
@@ -51,34 +51,34 @@ fn unless(holds: bool, reason: Reason) -> Verdict
 }
 
 // The fault of a number by its place: a wrong count, or a number too wide for its register.
-fn judge(k: u32, number: u32) -> Verdict
-    ensures { λ r. ⌜ meaningOfVerdict r ≡ faultAt streamLimit k number ⌝ }
+fn fault_of(k: u32, value: u32) -> Verdict
+    ensures { λ r. ⌜ meaningOfVerdict r ≡ numberFault streamLimit k value ⌝ }
 {
     if k == 0 {
-        return unless(number == places::BP_COUNT as u32, Reason::WrongCount);
+        return unless(value == places::BP_COUNT as u32, Reason::WrongCount);
     }
     if k < CP_COUNT_AT {
-        return unless(number < 0x100_0000, Reason::NumberTooWide);
+        return unless(value < 0x100_0000, Reason::NumberTooWide);
     }
     if k == CP_COUNT_AT {
-        return unless(number == places::COUNT as u32, Reason::WrongCount);
+        return unless(value == places::COUNT as u32, Reason::WrongCount);
     }
     if k < BASES_FROM {
         return Verdict::Sound;
     }
     if k < STRIDES_FROM {
-        return unless(number < 0x400_0000, Reason::NumberTooWide);
+        return unless(value < 0x400_0000, Reason::NumberTooWide);
     }
     if k < XF_COUNT_AT {
-        return unless(number < 256, Reason::NumberTooWide);
+        return unless(value < 256, Reason::NumberTooWide);
     }
     if k == XF_COUNT_AT {
-        return unless(number == places::XF_COUNT, Reason::WrongCount);
+        return unless(value == places::XF_COUNT, Reason::WrongCount);
     }
     if k < STREAM_COUNT_AT {
         return Verdict::Sound;
     }
-    unless(number <= STREAM_LIMIT, Reason::WrongCount)
+    unless(value <= STREAM_LIMIT, Reason::WrongCount)
 }
 
 // Searches the numbers of a file in their order; the search ends at the first fault.
@@ -98,7 +98,7 @@ pub fn search(file: &[u8]) -> Fault
                 reason: Reason::FileShort,
             };
         }
-        let verdict = judge(k, octets::word_at(file, place));
+        let verdict = fault_of(k, octets::word_at(file, place));
         if let Verdict::Refused(reason) = verdict {
             break Fault::At { place, reason };
         }

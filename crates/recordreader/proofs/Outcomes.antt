@@ -17,13 +17,13 @@ use Rattle.machine.specs.declared.Registers.{Registers}
 use Rattle.machine.specs.State.{freshMachine}
 use Rattle.recording.specs.declared.Fault.{Fault}
 use Rattle.recording.specs.declared.Fault.the-variants.{At, None}
-use Rattle.recording.specs.Format.{streamCountAt, streamAt, numberAt, contentOf}
+use Rattle.recording.specs.Format.{streamCountAt, streamAt, fileNumber, contentOf}
 use Rattle.recording.specs.Faults.{streamLimit, headFault, restFault, fileFault}
 use Rattle.recording.specs.Answers.{meaningOfFault, headRefusal, readRefusal, registersIn}
 use Rattle.recording.proofs.Sound.{rest-is}
 use Rattle.recordreader.specs.declared.HeadAnswer.the-variants as head
 use Rattle.recordreader.specs.declared.ReadAnswer.the-variants as whole
-use Rattle.recordreader.specs.declared.Loaded.{Loaded}
+use Rattle.recordreader.specs.declared.FileRead.{FileRead}
 use Rattle.recordreader.specs.Reading.{Loads, ReadsHead, ReadsFile}
 
 -- a reason's number is none for 0
@@ -63,7 +63,7 @@ module _ (file xf : List ℕ) where
   file-by-search x r e = rw (eq-eqb (length xf) xfCount x, e) (or-some (number r) _ (number-some r))
 
   pub file-by-rest : length xf ≡ xfCount → headFault streamLimit file ≡ 0
-      → ofFile ≡ restFault (numberAt file streamCountAt) (length file - streamAt)
+      → ofFile ≡ restFault (fileNumber file streamCountAt) (length file - streamAt)
   unfolding readRefusal fileFault
   file-by-rest x e = rw (eq-eqb (length xf) xfCount x, e)
 
@@ -81,11 +81,11 @@ module _ (file xf : List ℕ) where
       let f : eqb ofHead 0 ≡ false = some ofHead r e in
       record { answer-is = rw f (ap (λ (n : ℕ). n ∷ []) (sym e)); loads = refused-loads ofHead g f q }
 
-  pub head-read : (n : ℕ) (g : Registers) (xf' : List ℕ) → ofHead ≡ 0 → n ≡ numberAt file streamCountAt → g ≡ registersIn file
+  pub head-read : (n : ℕ) (g : Registers) (xf' : List ℕ) → ofHead ≡ 0 → n ≡ fileNumber file streamCountAt → g ≡ registersIn file
       → xf' ≡ contentOf file .xf → ReadsHead file xf (record { registers = g; answer = head.Stream n }) xf'
   head-read n g xf' e t q x = record { answer-is = rw (e, t); loads = loaded ofHead g xf' e q x }
 
-  pub file-refused : (r : Reason) (l : Loaded) → ofFile ≡ number r → l .registers ≡ freshMachine .registers → l .answer ≡ whole.Refused r
+  pub file-refused : (r : Reason) (l : FileRead) → ofFile ≡ number r → l .registers ≡ freshMachine .registers → l .answer ≡ whole.Refused r
       → ReadsFile file xf l xf
   file-refused r l e q a =
       let f : eqb ofFile 0 ≡ false = some ofFile r e in

@@ -8,7 +8,7 @@ use lib.ListN.{length}
 use Rattle.refusal.specs.Number.{number}
 use Rattle.machine.specs.declared.Registers.{Registers}
 use Rattle.machine.specs.State.{freshMachine}
-use Rattle.recording.specs.Format.{streamCountAt, streamAt, numberAt, contentOf}
+use Rattle.recording.specs.Format.{streamCountAt, streamAt, fileNumber, contentOf}
 use Rattle.recording.specs.Faults.{streamLimit}
 use Rattle.recording.specs.Answers.{headRefusal, readRefusal, registersIn}
 use Rattle.recordreader.specs.declared.HeadAnswer.{HeadAnswer}
@@ -16,7 +16,7 @@ use Rattle.recordreader.specs.declared.HeadAnswer.the-variants as head
 use Rattle.recordreader.specs.declared.HeadRead.{HeadRead}
 use Rattle.recordreader.specs.declared.ReadAnswer.{ReadAnswer}
 use Rattle.recordreader.specs.declared.ReadAnswer.the-variants as whole
-use Rattle.recordreader.specs.declared.Loaded.{Loaded}
+use Rattle.recordreader.specs.declared.FileRead.{FileRead}
 
 -- the numbers of an answer: 0 and what it tells, or the refusal's
 abbrev pub meaningOfHead : HeadAnswer → List ℕ
@@ -36,12 +36,12 @@ pub record Loads (refusal : ℕ) (file xf : List ℕ) (registers : Registers) (x
 pub record ReadsHead (file xf : List ℕ) (r : HeadRead) (xf' : List ℕ) : Type 0 where
   pub answer-is :
       meaningOfHead (r .answer)
-      ≡ cond (eqb (headRefusal streamLimit file (length xf)) 0) (0 ∷ numberAt file streamCountAt ∷ [])
+      ≡ cond (eqb (headRefusal streamLimit file (length xf)) 0) (0 ∷ fileNumber file streamCountAt ∷ [])
       (headRefusal streamLimit file (length xf) ∷ [])
   pub loads : Loads (headRefusal streamLimit file (length xf)) file xf (r .registers) xf'
 
 -- a whole file read: it "tells where the stream stands", and how long it is
-pub record ReadsFile (file xf : List ℕ) (r : Loaded) (xf' : List ℕ) : Type 0 where
+pub record ReadsFile (file xf : List ℕ) (r : FileRead) (xf' : List ℕ) : Type 0 where
   pub answer-is :
       meaningOfRead (r .answer)
       ≡ cond (eqb (readRefusal streamLimit file (length xf)) 0) (0 ∷ streamAt ∷ length (contentOf file .stream) ∷ [])

@@ -34,19 +34,19 @@ pub enum ReadAnswer {
 }
 
 // The registers of a file; beside a refusal fresh ones.
-pub struct Loaded {
+pub struct FileRead {
     pub registers: Registers,
     pub answer: ReadAnswer,
 }
 
 // The bytes where the BP registers, the CP registers and the XF words begin, and the count of the stream.
-const BP_PLACE: u32 = 4;
+const BP_BYTE: u32 = 4;
 
-const CP_PLACE: u32 = 1032;
+const CP_BYTE: u32 = 1032;
 
-const XF_PLACE: u32 = 1276;
+const XF_BYTE: u32 = 1276;
 
-const STREAM_COUNT_PLACE: u32 = 18012;
+const STREAM_COUNT_BYTE: u32 = 18012;
 
 // The XF words, as the length of a slice.
 const XF_LENGTH: usize = places::XF_COUNT as usize;
@@ -69,10 +69,10 @@ fn load(file: &[u8], xf: &mut [u32]) -> Registers
     ensures { λ r. ⌜ (r ≡ registersIn (now (file .entry))) × (now (xf .exit) ≡ contentOf (now (file .entry)) .xf) ⌝ }
 {
     let mut bp = [0u32; 256];
-    fill(&mut bp, file, BP_PLACE);
+    fill(&mut bp, file, BP_BYTE);
     let mut cp = [0u32; 60];
-    fill(&mut cp, file, CP_PLACE);
-    fill(xf, file, XF_PLACE);
+    fill(&mut cp, file, CP_BYTE);
+    fill(xf, file, XF_BYTE);
     Registers {
         cp,
         bp,
@@ -105,7 +105,7 @@ pub fn read_head(head: &[u8], xf: &mut [u32]) -> HeadRead
             answer: HeadAnswer::Refused(reason),
         };
     }
-    let told = octets::word_at(head, STREAM_COUNT_PLACE);
+    let told = octets::word_at(head, STREAM_COUNT_BYTE);
     HeadRead {
         registers: load(head, xf),
         answer: HeadAnswer::Stream(told),
@@ -113,17 +113,17 @@ pub fn read_head(head: &[u8], xf: &mut [u32]) -> HeadRead
 }
 
 // A refused reading.
-fn refuse(reason: Reason) -> Loaded
+fn refuse(reason: Reason) -> FileRead
     ensures { λ r. ⌜ (r .registers ≡ freshMachine .registers) × (r .answer ≡ ReadAnswer.Refused reason) ⌝ }
 {
-    Loaded {
+    FileRead {
         registers: fresh(),
         answer: ReadAnswer::Refused(reason),
     }
 }
 
 // Reads a whole file, and tells where its stream stands.
-pub fn read(file: &[u8], xf: &mut [u32]) -> Loaded
+pub fn read(file: &[u8], xf: &mut [u32]) -> FileRead
     ensures { λ r. ⌜ ReadsFile (now (file .entry)) (now (xf .entry)) r (now (xf .exit)) ⌝ }
 {
     if xf.len() != XF_LENGTH {
@@ -133,12 +133,12 @@ pub fn read(file: &[u8], xf: &mut [u32]) -> Loaded
     if let Fault::At { place: _, reason } = found {
         return refuse(reason);
     }
-    let told = octets::word_at(file, STREAM_COUNT_PLACE);
+    let told = octets::word_at(file, STREAM_COUNT_BYTE);
     let rest = recording::check_rest(told, file.len() - HEAD_LENGTH);
     if let Verdict::Refused(reason) = rest {
         return refuse(reason);
     }
-    Loaded {
+    FileRead {
         registers: load(file, xf),
         answer: ReadAnswer::Stream {
             at: HEAD_LENGTH as u32,

@@ -17,11 +17,11 @@ ghost use Rattle.recordwriter.specs.Writing.{WritesHead, WritesFile};
 ghost use Rattle.recordwriter.specs.Putting.{over, PutsHead};
 
 // The bytes where the sections of CP and of XF begin, and the count of the stream.
-const CP_SECTION: usize = 1028;
+const CP_COUNT_BYTE: usize = 1028;
 
-const XF_SECTION: usize = 1272;
+const XF_COUNT_BYTE: usize = 1272;
 
-const STREAM_COUNT: usize = 18012;
+const STREAM_COUNT_BYTE: usize = 18012;
 
 // The XF words, as the length of a slice.
 const XF_LENGTH: usize = places::XF_COUNT as usize;
@@ -66,12 +66,12 @@ fn put_head(out: &mut [u8], cp: &[u32; 60], bp: &[u32; 256], xf: &[u32], stream:
     ensures { λ _. ⌜ PutsHead (now (cp .entry)) (now (bp .entry)) (now (xf .entry)) stream (now (out .entry)) (now (out .exit)) ⌝ }
 {
     put_section(out, 0, bp);
-    put_section(out, CP_SECTION, cp);
-    put_section(out, XF_SECTION, xf);
-    put_number(out, STREAM_COUNT, stream as u32);
+    put_section(out, CP_COUNT_BYTE, cp);
+    put_section(out, XF_COUNT_BYTE, xf);
+    put_number(out, STREAM_COUNT_BYTE, stream as u32);
 }
 
-// Writes what stands before a stream of so many bytes to the front of the output, or says why not and writes nothing.
+// WritesBytes what stands before a stream of so many bytes to the front of the output, or says why not and writes nothing.
 pub fn write_head(
     cp: &[u32; 60],
     bp: &[u32; 256],
@@ -92,7 +92,7 @@ pub fn write_head(
     Written::Bytes(HEAD_LENGTH as u32)
 }
 
-// Writes a whole file to the front of the output, or says why not and writes nothing.
+// WritesBytes a whole file to the front of the output, or says why not and writes nothing.
 pub fn write(cp: &[u32; 60], bp: &[u32; 256], xf: &[u32], stream: &[u8], out: &mut [u8]) -> Written
     ensures { λ r. ⌜ WritesFile (recordingOf (now (cp .entry)) (now (bp .entry)) (now (xf .entry)) (now (stream .entry)))
         (now (out .entry)) r (now (out .exit)) ⌝ }

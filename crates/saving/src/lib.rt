@@ -116,15 +116,6 @@ pub fn save_before_bp(state: &mut [u32; 327], fifo: Fifo, cp: &[u32; 60], draw: 
     store(state, CP_PLACE, cp);
 }
 
-// Writes all words.
-pub fn save(state: &mut [u32; 327], fifo: Fifo, cp: &[u32; 60], bp: &[u32; 256], draw: Draw)
-    ensures { λ _. ⌜ now (state .exit) ≡ wordsBy fifo (now (cp .entry)) (now (bp .entry)) draw ⌝ }
-{
-    save_front(state, fifo, draw);
-    store(state, CP_PLACE, cp);
-    store(state, BP_PLACE, bp);
-}
-
 // Writes words 7 to 326: the draw and the registers. The window and the control word stay.
 pub fn save_registers(state: &mut [u32; 327], cp: &[u32; 60], bp: &[u32; 256], draw: Draw)
     ensures { λ _. ⌜ now (state .exit) ≡ wordsBy (fifoOf (now (state .entry))) (now (cp .entry)) (now (bp .entry)) draw ⌝ }
@@ -133,6 +124,15 @@ pub fn save_registers(state: &mut [u32; 327], cp: &[u32; 60], bp: &[u32; 256], d
     store(state, DRAW_PLACE, &drawn);
     store(state, CP_PLACE, cp);
     store(state, BP_PLACE, bp);
+}
+
+// Writes all words.
+pub fn save(state: &mut [u32; 327], fifo: Fifo, cp: &[u32; 60], bp: &[u32; 256], draw: Draw)
+    ensures { λ _. ⌜ now (state .exit) ≡ wordsBy fifo (now (cp .entry)) (now (bp .entry)) draw ⌝ }
+{
+    let front = fifo_words(fifo);
+    store(state, 0, &front);
+    save_registers(state, cp, bp, draw);
 }
 
 // Writes words 0 to 10, and the CP registers where a command loads one.

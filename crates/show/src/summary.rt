@@ -33,7 +33,7 @@ fn tell_open(tally: Tally, left: u32) -> bool {
     text::send(&mut out, at)
 }
 
-// Puts a byte of the recording.
+// Puts a byte of the stream.
 fn put_octet(out: &mut [u8; 120], at: usize, octet: u8) -> usize {
     put_hex(out, at, b" ", octet as u32, 2)
 }
@@ -114,7 +114,7 @@ fn tell_waiting(lacking: u32) -> bool {
     text::send(&mut out, at)
 }
 
-// The refusals that a recording can have, in words. The others concern the window, registers and buffers, which the program sets.
+// The refusals that a stream can have, in words. The others concern the window, registers and buffers, which the program sets.
 fn put_reason(out: &mut [u8; 120], at: usize, number: u32) -> usize {
     match number {
         6 => put(out, at, b": unknown opcode"),

@@ -69,7 +69,7 @@ pub fn put_count(out: &mut [u8; 120], at: usize, n: u64, one: &[u8], many: &[u8]
     put(out, next, many)
 }
 
-// Begins the line of a place in the recording: its byte offset.
+// Begins the line of a place in the stream: its byte offset.
 pub fn begin(out: &mut [u8; 120], offset: u64) -> usize {
     let at = put_wide(out, 0, offset, 8);
     put(out, at, b"  ")

@@ -3,8 +3,8 @@ use mathlib.Core.Path.{_≡_, refl, sym, ap, _∙_}
 use Prim.Native.Nat.{_-_, _≤_, _<_}
 use native.Mathlib.Omega.{arith}
 use Rattle.refusal.specs.Number.{number}
-use Rattle.recording.specs.Format.{numberCount, numberAt}
-use Rattle.recording.specs.Faults.{streamLimit, faultAt}
+use Rattle.recording.specs.Format.{numberCount, fileNumber}
+use Rattle.recording.specs.Faults.{streamLimit, numberFault}
 use Rattle.recording.specs.Answers.{meaningOfVerdict}
 use Rattle.recording.proofs.Finding.{foundFrom, found-first, found-next, found-here, found-cut, found-none}
 use borrow.Author.Needs.{needs}
@@ -35,8 +35,8 @@ cast-t13 c = search needs
 word-at-requires : tie.Need-word-at-requires Inv-loop μ-loop
 word-at-requires c κs = search needs
 
-judge-requires : tie.Need-judge-requires Inv-loop μ-loop
-judge-requires c κs = search needs
+fault-of-requires : tie.Need-fault-of-requires Inv-loop μ-loop
+fault-of-requires c κs = search needs
 
 enum-known-verdict : tie.Need-enum-known-verdict Inv-loop μ-loop
 enum-known-verdict c = search needs
@@ -56,9 +56,9 @@ loop-again c =
     let file = l .before .before .args .file .now in
     let h : l .loop .k < numberCount = omega arith in
     let j = c .before .before in
-    let sound : faultAt streamLimit (l .loop .k) (numberAt file (l .loop .k)) ≡ 0 =
-    ap (faultAt streamLimit (l .loop .k)) (sym (j .before .word-at .ensures))
-    ∙ sym (j .judge .ensures)
+    let sound : numberFault streamLimit (l .loop .k) (fileNumber file (l .loop .k)) ≡ 0 =
+    ap (numberFault streamLimit (l .loop .k)) (sym (j .before .word-at .ensures))
+    ∙ sym (j .fault-of .ensures)
     ∙ ap meaningOfVerdict (c .enum-told .given .1) in
     (omega arith, l .loop .inv .1 ∙ found-next streamLimit file (l .loop .k) h (omega arith) sound)
 
@@ -81,8 +81,8 @@ returns-3 c =
     let h : l .loop .k < numberCount = omega arith in
     let told = c .before .verdict .given in
     let j = c .before .before .before in
-    let is : number (told .0 .0) ≡ faultAt streamLimit (l .loop .k) (numberAt file (l .loop .k)) =
-    ap meaningOfVerdict (sym (told .1)) ∙ j .judge .ensures ∙ ap (faultAt streamLimit (l .loop .k)) (j .before .word-at .ensures) in
+    let is : number (told .0 .0) ≡ numberFault streamLimit (l .loop .k) (fileNumber file (l .loop .k)) =
+    ap meaningOfVerdict (sym (told .1)) ∙ j .fault-of .ensures ∙ ap (numberFault streamLimit (l .loop .k)) (j .before .word-at .ensures) in
     sym (found-first streamLimit file ∙ l .loop .inv .1 ∙ found-here streamLimit file (l .loop .k) h (omega arith) (told .0 .0) is)
 
 pub search-spec : {M : Type 1} → statement M
@@ -97,7 +97,7 @@ search-spec =
     add-if2
     cast-t13
     word-at-requires
-    judge-requires
+    fault-of-requires
     enum-known-verdict
     enum-told
     add-k
