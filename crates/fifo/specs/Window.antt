@@ -8,15 +8,15 @@ use Rattle.laws.specs.Tests.{allOf}
 use Rattle.fifo.specs.declared.Window.{Window}
 use Rattle.fifo.specs.declared.Fifo.{Fifo}
 
--- "Size is 256 to 65,536": the most bytes of a ring
+-- document 02, L9, "Raise the size limit to 1,048,576": the most bytes of a ring
 unfoldable pub sizeLimit : ℕ
-sizeLimit = 65536
+sizeLimit = 1048576
 
 -- "Size is end minus start": the end is exclusive. A window whose end is below its start has size 0.
 abbrev pub sizeOf : Window → ℕ
 sizeOf w = w .end - w .start
 
--- the window's rules: "Start and size are multiples of 32 .. Size is 256 to 65,536. Both pointers p satisfy start <= p < end."
+-- the window's rules: "Start and size are multiples of 32 .. Size is 256 to" the limit. "Both pointers p satisfy start <= p < end."
 pub record Valid (w : Window) : Type 0 where
   pub least : 256 ≤ sizeOf w
   pub most : sizeOf w ≤ sizeLimit

@@ -10,8 +10,8 @@ pub use rules::valid;
 ghost use mathlib.Core.Path.{_≡_};
 ghost use Rattle.fifo.specs.Window.{withWindow, freshFifo};
 
-// The most bytes of a ring: "Size is 256 to 65,536".
-pub const SIZE_LIMIT: u32 = 65536;
+// The most bytes of a ring: one mebibyte.
+pub const SIZE_LIMIT: u32 = 1048576;
 
 // The ring window: the hardware registers 020 to 03A, but for the count. The end is exclusive.
 pub struct Window {

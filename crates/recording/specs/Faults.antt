@@ -10,9 +10,9 @@ use Rattle.places.specs.Places.{cpCount, bpCount, basePlace, stridePlace}
 use Rattle.command.specs.Look.{xfCount}
 use Rattle.recording.specs.Format.{cpCountAt, cpFrom, xfCountAt, streamCountAt, numberCount, streamAt, fileNumber}
 
--- "stream bytes (0 to 65,535)": the longest stream
+-- "stream bytes (0 to 65,535)", and L9, "Raise .. the recording's stream to 1,048,575": the longest stream
 abbrev pub streamLimit : ℕ
-streamLimit = 65535
+streamLimit = 1048575
 
 -- "a wrong count 20": of a count v that must be n
 abbrev pub unlessEqual : ℕ → ℕ → ℕ

@@ -9,7 +9,7 @@ ghost use Rattle.recording.specs.Faults.{streamLimit, numberFault, headF
 ghost use Rattle.recording.specs.Answers.{meaningOfVerdict, meaningOfFault};
 
 // The longest stream.
-pub const STREAM_LIMIT: u32 = 65535;
+pub const STREAM_LIMIT: u32 = 1048575;
 
 // How many bytes stand before the stream: 4,504 numbers of 4 bytes, four of them counts.
 pub const HEAD_LENGTH: usize = 18016;

@@ -56,16 +56,16 @@ pub record Arrives (ring : List ℕ) (limit : ℕ) (s : State)
   pub stop-is : stop ≡ steps ring limit s .stop
   pub state-is : stateOf fifo cp bp draw xf buffer ≡ steps ring limit s .state
 
--- the most units of a run
+-- document 02, L9, "Raise .. a run's limit .. to 1,048,575": the most units of a run
 unfoldable pub runLimit : ℕ
-runLimit = 65535
+runLimit = 1048575
 
 -- "A run of limit 0 still gives 1 to 5."
 abbrev pub gated : ℕ → State → Ended → Ended
 gated zero s e = e
 gated (suc r) s e = ended [] (suc r ∷ []) s
 
--- a run; more than the most units counts as that
+-- a run; "a run's higher limit counts as that"
 unfoldable pub runOf : List ℕ → ℕ → State → Ended
 runOf ring limit s = gated (gateOf s (length ring)) s (steps ring (min limit runLimit) s)
 

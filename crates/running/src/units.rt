@@ -20,7 +20,7 @@ ghost use Rattle.running.specs.Stretch.{SizeKnown, TakesVertex};
 ghost use Rattle.running.specs.Run.{runLimit, stopOf, meaningOfStop, Arrives};
 
 // The most units of a run.
-pub const LIMIT: u32 = 65535;
+pub const LIMIT: u32 = 1048575;
 
 // What a run leaves of the fifo and the draw, the units that it took, and why it stopped.
 pub struct Course {
