@@ -145,7 +145,7 @@ module _ (limit : ℕ) (r : Recording) (small : limit < 2 ^ 32) (w : Recordable 
   short : length (r .stream) ≤ limit
   short = passes limit (r .cp) (r .bp) (length (r .xf)) (length (r .stream)) (w .passes) .short
 
-  last-count : fileNumber file streamCountAt ≡ length (r .stream)
+  pub last-count : fileNumber file streamCountAt ≡ length (r .stream)
   unfolding fileBytes headBytes
   last-count =
       count-is (to-xf ++ wordBytes (r .xf)) (r .stream) (r .stream) streamCountAt (simp append-assoc)

@@ -75,7 +75,7 @@ below-by v n e = go (ltb v n) refl e
     go true p q = ltb-true v n p
     go false p q = absurd (omega arith)
 
-within-by : (v n : ℕ) → unlessWithin v n ≡ 0 → v ≤ n
+pub within-by : (v n : ℕ) → unlessWithin v n ≡ 0 → v ≤ n
 within-by v n e = go (leb v n) refl e
   where
     go : (t : Bool) → leb v n ≡ t → _≡_ {A = ℕ} (cond t 0 20) 0 → v ≤ n

@@ -6,4 +6,5 @@ pub mod Head
 pub mod Content
 pub mod Back
 pub mod Promises
+pub mod Limits
 pub mod Meanings

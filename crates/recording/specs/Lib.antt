@@ -2,3 +2,4 @@ pub mod Format
 pub mod Faults
 pub mod Answers
 pub mod Promises
+pub mod Limits
