@@ -3,3 +3,4 @@ pub mod Waiting
 pub mod Looks
 pub mod Wholes
 pub mod Recorded
+pub mod Earlier

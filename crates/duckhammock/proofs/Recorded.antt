@@ -207,7 +207,7 @@ module _ (words xf stream : List ℕ) (long : length words ≡ 327) (fit : Words
       let l : k < 60 = omega (arith, h, length-take 60 (drop 11 words)) in
       rw (getD-take 60 (drop 11 words) k 0 l, getD-drop 11 words k 0) (fit (11 + k))))
 
-  taken : Recordable streamLimit held
+  pub taken : Recordable streamLimit held
   taken = record {
     passes = pass;
     cp-length = cp-length words long;
@@ -245,20 +245,31 @@ module _ (words xf stream : List ℕ) (long : length words ≡ 327) (fit : Words
         stream-is = stream-there out;
       }
 
+-- what was written is the file of a content that is not refused
+module _ (words xf stream out : List ℕ) (count r : ℕ) (out' : List ℕ) (count' : ℕ) (p : PutsFile words xf stream out count r out' count')
+    (z : r ≡ 0) where
+  pub taken-content : contentRefusal streamLimit (cpOf words) (bpOf words) (length xf) (length stream) ≡ 0
+  unfolding recordRefusal
+  taken-content = or-zero _ _ (sym (p .answer-is) ∙ z) .0
+
+  pub written-whole : take count' out' ≡ fileBytes (recordingOf (cpOf words) (bpOf words) xf stream)
+  written-whole =
+      let file : List ℕ = fileBytes (recordingOf (cpOf words) (bpOf words) xf stream) in
+      let o : out' ≡ placed file out = rw z at (p .out-is) in
+      let c : count' ≡ length file = rw z at (p .count-is) in
+      (λ i. take (c i) (o i)) ∙ take-append-seam file (drop (length file) out)
+
 written-read : (words xf stream out : List ℕ) (count r : ℕ) (out' : List ℕ) (count' : ℕ) (other xf₀ told : List ℕ) (s : ℕ)
     (words' xf' told' : List ℕ) → length words ≡ 327 → WordsFit words → WordsFit xf → length xf₀ ≡ xfCount
     → PutsFile words xf stream out count r out' count' → r ≡ 0 → LoadsFile other (take count' out') xf₀ told s words' xf' told'
     → ReadAgain words xf stream other out' s words' xf' told'
-unfolding recordRefusal
 written-read words xf stream out count r out' count' other xf₀ told s words' xf' told' long fit fit-xf n p z h =
     let file : List ℕ = fileBytes (recordingOf (cpOf words) (bpOf words) xf stream) in
     let o : out' ≡ placed file out = rw z at (p .out-is) in
-    let c : count' ≡ length file = rw z at (p .count-is) in
-    let pass = or-zero _ _ (sym (p .answer-is) ∙ z) .0 in
-    let whole : take count' out' ≡ file = (λ i. take (c i) (o i)) ∙ take-append-seam file (drop (length file) out) in
     subst (λ (l : List ℕ). ReadAgain words xf stream other l s words' xf' told') (sym o)
-    (read-again words xf stream long fit fit-xf pass other out xf₀ told s words' xf' told' n
-    (subst (λ (l : List ℕ). LoadsFile other l xf₀ told s words' xf' told') whole h))
+    (read-again words xf stream long fit fit-xf (taken-content words xf stream out count r out' count' p z) other out xf₀ told s
+    words' xf' told' n
+    (subst (λ (l : List ℕ). LoadsFile other l xf₀ told s words' xf' told') (written-whole words xf stream out count r out' count' p z) h))
 
 pub recorded-promises : RecordedPromises
 recorded-promises = record {

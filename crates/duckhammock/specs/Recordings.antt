@@ -1,6 +1,6 @@
--- Document 02, L1: what the calls on recordings promise together with the other calls (`RecordedPromises`, proved in proofs/Recorded). Each
--- premise is the contract of a call, as it stands; that there are 327 words, that words have 32 bits and that a file is bytes are the
--- parameters' types.
+-- Document 02, L1: what the calls on recordings promise together with the other calls (`RecordedPromises`, proved in proofs/Recorded), and
+-- L9: what they promise beside those of before (`EarlierPromises`, proved in proofs/Earlier). Each premise is the contract of a call, as it
+-- stands; that there are 327 words, that words have 32 bits and that a file is bytes are the parameters' types.
 use mathlib.Core.Path.{_≡_}
 use mathlib.Core.Bool.{cond}
 use mathlib.Core.List.{List, [], _∷_}
@@ -12,6 +12,7 @@ use Rattle.octets.specs.BigEndian.{Octets, WordsFit}
 use Rattle.command.specs.declared.Draw.the-variants.{Closed}
 use Rattle.command.specs.Look.{xfCount}
 use Rattle.writer.specs.Write.{placed}
+use Rattle.answers.specs.Counting.{PutsBytes}
 use Rattle.fifo.specs.declared.Fifo.{Fifo}
 use Rattle.fifo.specs.Window.{Ready}
 use Rattle.queue.specs.Feeding.{fifoAfter}
@@ -19,8 +20,10 @@ use Rattle.queue.specs.Pending.{pending}
 use Rattle.machine.specs.State.{State, stateOf}
 use Rattle.words.specs.State.{windowOf, fifoOf, cpOf, bpOf, stateAt, wordsBy, fifoStored}
 use Rattle.access.specs.Calls.{Feeds}
-use Rattle.recording.specs.Format.{streamAt, contentOf}
-use Rattle.recording.specs.Faults.{restFault}
+use Rattle.recording.specs.Format.{recordingOf, fileBytes, streamAt, contentOf}
+use Rattle.recording.specs.Faults.{headFault, restFault, fileFault}
+use Rattle.recording.specs.Answers.{headRefusal, readRefusal, recordRefusal}
+use Rattle.recording.specs.Limits.{earlierLimit, TooLong}
 use Rattle.filing.specs.Calls.{LoadsInto, LoadsFile, LoadsHead, PutsFile}
 
 -- "A loaded recording starts with no draw open": the state of a file's registers and XF words behind a fifo
@@ -76,3 +79,22 @@ pub record RecordedPromises : Type 0 where
       (words' xf' told' : List ℕ) → length words ≡ 327 → WordsFit words → WordsFit xf → length xf₀ ≡ xfCount
       → PutsFile words xf stream out count r out' count' → r ≡ 0 → LoadsFile other (take count' out') xf₀ told s words' xf' told'
       → ReadAgain words xf stream other out' s words' xf' told'
+
+-- ---- L9, a longer stream than before. The calls before it had the contracts of now with 65,535 for the longest stream
+
+pub record EarlierPromises : Type 0 where
+  -- "Files written before keep their meaning byte by byte": of a file that the earlier reader accepts this one meets the earlier contract
+  pub read : (words file xf told : List ℕ) (r : ℕ) (words' xf' told' : List ℕ) → fileFault earlierLimit file ≡ 0
+      → LoadsFile words file xf told r words' xf' told' → LoadsInto (readRefusal earlierLimit file (length xf)) words file xf r words' xf'
+  -- and so it does of a head
+  pub read-head : (words head xf : List ℕ) (told r : ℕ) (words' xf' : List ℕ) (told' : ℕ) → headFault earlierLimit head ≡ 0
+      → LoadsHead words head xf told r words' xf' told' → LoadsInto (headRefusal earlierLimit head (length xf)) words head xf r words' xf'
+  -- of a stream that the earlier writer takes this one meets the earlier contract: the bytes are the same
+  pub written : (words xf stream out : List ℕ) (count r : ℕ) (out' : List ℕ) (count' : ℕ) → length stream ≤ earlierLimit
+      → PutsFile words xf stream out count r out' count'
+      → PutsBytes (recordRefusal earlierLimit (cpOf words) (bpOf words) (length xf) (length stream) (length out))
+      (fileBytes (recordingOf (cpOf words) (bpOf words) xf stream)) out count r out' count'
+  -- "An earlier reader refuses a file written with a longer stream by 20"
+  pub refused : (words xf stream out : List ℕ) (count r : ℕ) (out' : List ℕ) (count' : ℕ) → length words ≡ 327 → WordsFit words
+      → WordsFit xf → PutsFile words xf stream out count r out' count' → r ≡ 0 → earlierLimit < length stream
+      → TooLong earlierLimit (take count' out')

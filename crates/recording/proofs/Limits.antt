@@ -62,7 +62,7 @@ module _ (a b : ℕ) (file : List ℕ) where
         }
 
 -- the count of an accepted file is within the limit
-counted : (limit : ℕ) (file : List ℕ) → headFault limit file ≡ 0 → fileNumber file streamCountAt ≤ limit
+pub counted : (limit : ℕ) (file : List ℕ) → headFault limit file ≡ 0 → fileNumber file streamCountAt ≤ limit
 counted limit file e =
     let told = fileNumber file streamCountAt in
     within-by told limit (sym (of-stream-count limit streamCountAt told (omega arith)) ∙ sound limit file e streamCountAt (lit< tt) .fault)

@@ -19,4 +19,5 @@ fn main() {
     units::metrics();
     units::waiting();
     units::stopping();
+    ring::mebibyte();
 }

@@ -3,13 +3,14 @@ use crate::line;
 use fifo::Answer;
 use fifo::Counted;
 use fifo::Fifo;
+use fifo::Reading;
 use fifo::Window;
 
-// A ring of 256 bytes at 1000 (hex).
-pub fn at_1000(read: u32, write: u32) -> Fifo {
+// A ring at 1000 (hex), with its end and its pointers.
+fn to_end(end: u32, read: u32, write: u32) -> Fifo {
     let window = Window {
         start: 0x1000,
-        end: 0x1100,
+        end,
         high: 0,
         low: 0,
         write,
@@ -18,6 +19,11 @@ pub fn at_1000(read: u32, write: u32) -> Fifo {
     let mut r = fifo::fresh();
     r.window = window;
     r
+}
+
+// One of 256 bytes.
+pub fn at_1000(read: u32, write: u32) -> Fifo {
+    to_end(0x1100, read, write)
 }
 
 // The count, or 1000 and the refusal's number.
@@ -58,4 +64,22 @@ pub fn filled() {
     let answer = more.answer;
     line::write(b"the 256th byte: ", answered(answer));
     line::write(b"count after it: ", counted(held));
+}
+
+// A register of a fifo with no draw open, or 10000000 (hex) and the refusal's number.
+fn register(fifo: Fifo, offset: u16) -> u32 {
+    match registers::read_register(fifo, false, offset) {
+        Reading::Value(v) => v as u32,
+        Reading::Refused(reason) => 0x1000_0000 + refusal::number(reason) as u32,
+    }
+}
+
+// Document 02, L9: the count of a ring of a mebibyte in its two halves, and a ring of 32 bytes more.
+pub fn mebibyte() {
+    let held = to_end(0x101000, 0xFE000, 0x10345);
+    line::write_hex(b"count in a ring of 100000: ", counted(held));
+    line::write_hex(b"030 of it: ", register(held, 0x030));
+    line::write_hex(b"032 of it: ", register(held, 0x032));
+    let larger = to_end(0x101020, 0xFE000, 0x10345);
+    line::write(b"count in a ring of 100020: ", counted(larger));
 }

@@ -2,7 +2,7 @@
 -- document 02 where it corrects it or adds to it.
 -- A further row is added to `rows`, and the definitions that it opens to the lines under `worked`.
 use mathlib.Core.Path.{_≡_, refl, ap, _∙_}
-use mathlib.Core.Bool.{cond}
+use mathlib.Core.Bool.{false, cond}
 use mathlib.Core.List.{List, [], _∷_, _++_}
 use Prim.Native.Nat.{ℕ, _+_, _*_, _^_}
 use lib.ListN.{length, getD, set, replicate}
@@ -28,6 +28,7 @@ use Rattle.patchwriter.specs.Commands.{commandsAt, commandsFrom, commandsOf, by
 use Rattle.fifo.specs.declared.Fifo.{Fifo}
 use Rattle.fifo.specs.Window.{sizeLimit, validBy, countOf as countIn}
 use Rattle.fifo.specs.Answers.{countAnswer}
+use Rattle.registers.specs.Registers.{halfOf, listed, computed, readable, valueOf, readAnswer}
 
 -- VCD groups 0 and 1, VAT groups 0, 1 and 2
 abbrev words : ℕ → ℕ → ℕ → ℕ → ℕ → Descriptor
@@ -81,6 +82,11 @@ abbrev wrapped : Fifo
 wrapped =
     record { window = record { start = 0x1000; end = 0x1100; high = 0; low = 0; write = 0x1003; read = 0x10FE }; control = 0 }
 
+-- a ring of some bytes from 0 on that is filled up to a place
+abbrev filledTo : ℕ → ℕ → Fifo
+filledTo size write =
+    record { window = record { start = 0; end = size; high = 0; low = 0; write = write; read = 0 }; control = 0 }
+
 -- the BP registers with a number in 41, a mask in FE and 0 in the others
 abbrev holding : ℕ → ℕ → List ℕ
 holding n mask = set (set (replicate 256 0) 0x41 n) 0xFE mask
@@ -118,6 +124,17 @@ lacking =
     ∷ row (aloneBytes [] (Open 2 0 3)) 1012
     ∷ []
 
+-- document 02, L9: rings of 1,048,544 and 1,048,576 bytes are allowed, one of 1,048,608 gives 1; a ring of 1,048,576 holds 1,048,575, FFFFF
+-- (hex), of which 030 tells FFFF and 032 F
+unfoldable pub largeRings : List Row
+largeRings =
+    row (getD (countAnswer (filledTo 1048544 0x12345)) 1 0) 0x12345
+    ∷ row (getD (countAnswer (filledTo 1048576 1048575)) 1 0) 0xFFFFF
+    ∷ row (getD (countAnswer (filledTo 1048608 0x12345)) 0 0) 1
+    ∷ row (getD (readAnswer (filledTo 1048576 1048575) false 0x30) 1 0) 0xFFFF
+    ∷ row (getD (readAnswer (filledTo 1048576 1048575) false 0x32) 1 0) 0xF
+    ∷ []
+
 -- the table, in document 01's order, then what document 02 corrects and adds
 unfoldable pub rows : List Row
 rows =
@@ -135,7 +152,7 @@ rows =
     ∷ row (first 2 16 0 (0xFF ∷ 0xFF ∷ 0 ∷ 0 ∷ [])) 0x3F7FFF00
     ∷ row (first 3 31 0 (0xFF ∷ 0xFF ∷ 0 ∷ 0 ∷ [])) 0xB0000000
     ∷ row (first 0 3 0 (8 ∷ 0 ∷ [])) 0x41000000
-    ∷ corrected ++ lacking
+    ∷ corrected ++ (lacking ++ largeRings)
 
 -- the left and the right numbers of a table
 unfoldable pub given : List Row → List ℕ
@@ -147,11 +164,11 @@ said [] = []
 said (row a b ∷ l) = b ∷ said l
 
 pub worked : given rows ≡ said rows
-unfolding rows corrected lacking given said bitsAt modes counts formats shifts modeOf countOf formatOf fractionBits fractionOf indicesOf
+unfolding rows corrected lacking largeRings given said bitsAt modes counts formats shifts modeOf countOf formatOf fractionBits fractionOf indicesOf
     directOf sizeOf offsetOf unknownAt anyUnknown refusalOf lengthOf
     refusalAt attributeList directList componentList paddedList componentAt rawAt bigEndian componentOf upTo round toBits ofBits
     sizeLimit validBy countIn countAnswer whole lookCp xfWords xfAddress lookXf descriptorOf lookVertex byOpcode lookOf
-    masked storedBp loadedBp
+    masked storedBp loadedBp halfOf listed computed readable valueOf readAnswer
 worked = refl
 
 -- ---- the two patches of "Sheets and the writer"
