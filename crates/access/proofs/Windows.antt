@@ -12,6 +12,7 @@ use Rattle.laws.proofs.Cases.{and-left, and-right, tested}
 use Rattle.laws.proofs.Tests.{or-cases}
 use Rattle.refusal.specs.Number.{number}
 use Rattle.refusal.specs.declared.Reason.{Reason}
+use Rattle.refusal.proofs.Positive.{not-zero}
 use Rattle.command.specs.declared.Draw.the-variants.{Closed, Open}
 use Rattle.fifo.specs.declared.Window.{Window}
 use Rattle.fifo.specs.declared.Fifo.{Fifo}
@@ -27,7 +28,7 @@ use Rattle.machine.specs.State.{drawingOf}
 use Rattle.words.specs.State.{windowOf, fifoOf, drawOf, leftOf, fifoStored}
 use Rattle.encoding.specs.Told.{firstOf, secondOf}
 use Rattle.access.specs.Calls.{readingOf, ReadsRegister, WritesRegister, Feeds}
-use Rattle.encoding.proofs.Refusals.{not-zero, stays, stays-number}
+use Rattle.encoding.proofs.Refusals.{stays, stays-number}
 
 -- the fifo that the code hands on: the window with no control word
 abbrev bare : Window → Fifo

@@ -125,8 +125,8 @@ by-head zero a b rest e = ap (λ (n : ℕ). restFault n rest) (e refl)
 by-head (suc r) a b rest e = refl
 
 in-two : (words file xf : List ℕ) (told r : ℕ) (words' xf' : List ℕ) (told' : ℕ) (stream : List ℕ) (s : ℕ)
-    (words'' xf'' stream' : List ℕ) → LoadsHead words (take streamAt file) xf told r words' xf' told'
-    → LoadsFile words file xf stream s words'' xf'' stream' → InParts (length file - streamAt) r told' s words' xf' words'' xf'' stream'
+    (words'' xf'' stream' : List ℕ) → LoadsHead streamLimit words (take streamAt file) xf told r words' xf' told'
+    → LoadsFile streamLimit words file xf stream s words'' xf'' stream' → InParts (length file - streamAt) r told' s words' xf' words'' xf'' stream'
 unfolding readRefusal contentOf
 in-two words file xf told r words' xf' told' stream s words'' xf'' stream' h k =
     let front : List ℕ = take streamAt file in
@@ -172,8 +172,8 @@ more-room limit c room more h e =
     ]
 
 read-written : (words file xf told : List ℕ) (r : ℕ) (words' xf' told' out : List ℕ) (count s : ℕ) (out' : List ℕ) (count' : ℕ)
-    → Octets file → LoadsFile words file xf told r words' xf' told' → r ≡ 0 → length file ≤ length out
-    → PutsFile words' xf' (contentOf file .stream) out count s out' count'
+    → Octets file → LoadsFile streamLimit words file xf told r words' xf' told' → r ≡ 0 → length file ≤ length out
+    → PutsFile streamLimit words' xf' (contentOf file .stream) out count s out' count'
     → (s ≡ 0) × (count' ≡ length file) × (out' ≡ placed file out)
 read-written words file xf told r words' xf' told' out count s out' count' o h z room p =
     let clear = no-fault streamLimit file (length xf) (sym (h .loads .answer-is) ∙ z) in
@@ -230,7 +230,7 @@ module _ (words xf stream : List ℕ) (long : length words ≡ 327) (fit : Words
       ∙ take-append-seam stream rest
 
   read-again : (other out xf₀ told : List ℕ) (s : ℕ) (words' xf' told' : List ℕ) → length xf₀ ≡ xfCount
-      → LoadsFile other (fileBytes held) xf₀ told s words' xf' told'
+      → LoadsFile streamLimit other (fileBytes held) xf₀ told s words' xf' told'
       → ReadAgain words xf stream other (placed (fileBytes held) out) s words' xf' told'
   unfolding readRefusal
   read-again other out xf₀ told s words' xf' told' n h =
@@ -246,7 +246,7 @@ module _ (words xf stream : List ℕ) (long : length words ≡ 327) (fit : Words
       }
 
 -- what was written is the file of a content that is not refused
-module _ (words xf stream out : List ℕ) (count r : ℕ) (out' : List ℕ) (count' : ℕ) (p : PutsFile words xf stream out count r out' count')
+module _ (words xf stream out : List ℕ) (count r : ℕ) (out' : List ℕ) (count' : ℕ) (p : PutsFile streamLimit words xf stream out count r out' count')
     (z : r ≡ 0) where
   pub taken-content : contentRefusal streamLimit (cpOf words) (bpOf words) (length xf) (length stream) ≡ 0
   unfolding recordRefusal
@@ -259,9 +259,9 @@ module _ (words xf stream out : List ℕ) (count r : ℕ) (out' : List ℕ) (cou
       let c : count' ≡ length file = rw z at (p .count-is) in
       (λ i. take (c i) (o i)) ∙ take-append-seam file (drop (length file) out)
 
-written-read : (words xf stream out : List ℕ) (count r : ℕ) (out' : List ℕ) (count' : ℕ) (other xf₀ told : List ℕ) (s : ℕ)
+pub written-read : (words xf stream out : List ℕ) (count r : ℕ) (out' : List ℕ) (count' : ℕ) (other xf₀ told : List ℕ) (s : ℕ)
     (words' xf' told' : List ℕ) → length words ≡ 327 → WordsFit words → WordsFit xf → length xf₀ ≡ xfCount
-    → PutsFile words xf stream out count r out' count' → r ≡ 0 → LoadsFile other (take count' out') xf₀ told s words' xf' told'
+    → PutsFile streamLimit words xf stream out count r out' count' → r ≡ 0 → LoadsFile streamLimit other (take count' out') xf₀ told s words' xf' told'
     → ReadAgain words xf stream other out' s words' xf' told'
 written-read words xf stream out count r out' count' other xf₀ told s words' xf' told' long fit fit-xf n p z h =
     let file : List ℕ = fileBytes (recordingOf (cpOf words) (bpOf words) xf stream) in
@@ -269,7 +269,7 @@ written-read words xf stream out count r out' count' other xf₀ told s words' x
     subst (λ (l : List ℕ). ReadAgain words xf stream other l s words' xf' told') (sym o)
     (read-again words xf stream long fit fit-xf (taken-content words xf stream out count r out' count' p z) other out xf₀ told s
     words' xf' told' n
-    (subst (λ (l : List ℕ). LoadsFile other l xf₀ told s words' xf' told') (written-whole words xf stream out count r out' count' p z) h))
+    (subst (λ (l : List ℕ). LoadsFile streamLimit other l xf₀ told s words' xf' told') (written-whole words xf stream out count r out' count' p z) h))
 
 pub recorded-promises : RecordedPromises
 recorded-promises = record {

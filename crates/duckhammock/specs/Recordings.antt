@@ -1,9 +1,9 @@
 -- Document 02, L1: what the calls on recordings promise together with the other calls (`RecordedPromises`, proved in proofs/Recorded), and
--- L9: what they promise beside those of before (`EarlierPromises`, proved in proofs/Earlier). Each premise is the contract of a call, as it
--- stands; that there are 327 words, that words have 32 bits and that a file is bytes are the parameters' types.
+-- L9: what they promise beside those of before (`EarlierPromises`, proved in proofs/Earlier). Where a premise is the contract of a call, it
+-- is that contract as it stands; that there are 327 words, that words have 32 bits and that a file is bytes are the parameters' types.
 use mathlib.Core.Path.{_≡_}
 use mathlib.Core.Bool.{cond}
-use mathlib.Core.List.{List, [], _∷_}
+use mathlib.Core.List.{List, [], _∷_, _++_}
 use Prim.Native.Nat.{ℕ, _-_, _<_, _≤_}
 use lib.Dec.{eqb}
 use lib.ListN.{length, take, drop}
@@ -12,7 +12,6 @@ use Rattle.octets.specs.BigEndian.{Octets, WordsFit}
 use Rattle.command.specs.declared.Draw.the-variants.{Closed}
 use Rattle.command.specs.Look.{xfCount}
 use Rattle.writer.specs.Write.{placed}
-use Rattle.answers.specs.Counting.{PutsBytes}
 use Rattle.fifo.specs.declared.Fifo.{Fifo}
 use Rattle.fifo.specs.Window.{Ready}
 use Rattle.queue.specs.Feeding.{fifoAfter}
@@ -20,11 +19,10 @@ use Rattle.queue.specs.Pending.{pending}
 use Rattle.machine.specs.State.{State, stateOf}
 use Rattle.words.specs.State.{windowOf, fifoOf, cpOf, bpOf, stateAt, wordsBy, fifoStored}
 use Rattle.access.specs.Calls.{Feeds}
-use Rattle.recording.specs.Format.{recordingOf, fileBytes, streamAt, contentOf}
-use Rattle.recording.specs.Faults.{headFault, restFault, fileFault}
-use Rattle.recording.specs.Answers.{headRefusal, readRefusal, recordRefusal}
-use Rattle.recording.specs.Limits.{earlierLimit, TooLong}
-use Rattle.filing.specs.Calls.{LoadsInto, LoadsFile, LoadsHead, PutsFile}
+use Rattle.recording.specs.Format.{streamAt, contentOf}
+use Rattle.recording.specs.Faults.{streamLimit, headFault, restFault, fileFault}
+use Rattle.recording.specs.Limits.{earlierLimit}
+use Rattle.filing.specs.Calls.{LoadsInto, LoadsFile, LoadsHead, PutsFile, PutsHead}
 
 -- "A loaded recording starts with no draw open": the state of a file's registers and XF words behind a fifo
 abbrev pub loadedState : Fifo → List ℕ → List ℕ → State
@@ -67,34 +65,53 @@ pub record RecordedPromises : Type 0 where
       → Feeds (fifoStored words' f) ring bytes s words'' ring' → LoadedFed file vertex bytes ring f s words'' xf' ring'
   -- reading the whole is reading the head, its first 18,016 bytes, and checking the rest
   pub in-parts : (words file xf : List ℕ) (told r : ℕ) (words' xf' : List ℕ) (told' : ℕ) (stream : List ℕ) (s : ℕ)
-      (words'' xf'' stream' : List ℕ) → LoadsHead words (take streamAt file) xf told r words' xf' told'
-      → LoadsFile words file xf stream s words'' xf'' stream' → InParts (length file - streamAt) r told' s words' xf' words'' xf'' stream'
+      (words'' xf'' stream' : List ℕ) → LoadsHead streamLimit words (take streamAt file) xf told r words' xf' told'
+      → LoadsFile streamLimit words file xf stream s words'' xf'' stream' → InParts (length file - streamAt) r told' s words' xf' words'' xf'' stream'
   -- "An accepted file is exactly what the writer gives for its content": what was read, written to an output that is long enough
   pub read-written : (words file xf told : List ℕ) (r : ℕ) (words' xf' told' out : List ℕ) (count s : ℕ) (out' : List ℕ) (count' : ℕ)
-      → Octets file → LoadsFile words file xf told r words' xf' told' → r ≡ 0 → length file ≤ length out
-      → PutsFile words' xf' (contentOf file .stream) out count s out' count'
+      → Octets file → LoadsFile streamLimit words file xf told r words' xf' told' → r ≡ 0 → length file ≤ length out
+      → PutsFile streamLimit words' xf' (contentOf file .stream) out count s out' count'
       → (s ≡ 0) × (count' ≡ length file) × (out' ≡ placed file out)
   -- "one file, written and read back": a file that was written is read into any words, and gives what was written
   pub written-read : (words xf stream out : List ℕ) (count r : ℕ) (out' : List ℕ) (count' : ℕ) (other xf₀ told : List ℕ) (s : ℕ)
       (words' xf' told' : List ℕ) → length words ≡ 327 → WordsFit words → WordsFit xf → length xf₀ ≡ xfCount
-      → PutsFile words xf stream out count r out' count' → r ≡ 0 → LoadsFile other (take count' out') xf₀ told s words' xf' told'
+      → PutsFile streamLimit words xf stream out count r out' count' → r ≡ 0 → LoadsFile streamLimit other (take count' out') xf₀ told s words' xf' told'
       → ReadAgain words xf stream other out' s words' xf' told'
 
--- ---- L9, a longer stream than before. The calls before it had the contracts of now with 65,535 for the longest stream
+-- ---- L9: beside the calls of before, which had the same contracts with `earlierLimit` for the longest stream
+
+-- refused by 20, and all that was lent is what it was
+pub record LeftAlone (s : ℕ) (words xf told words' xf' told' : List ℕ) : Type 0 where
+  pub answer-is : s ≡ 20
+  pub words-are : words' ≡ words
+  pub xf-is : xf' ≡ xf
+  pub told-is : told' ≡ told
 
 pub record EarlierPromises : Type 0 where
-  -- "Files written before keep their meaning byte by byte": of a file that the earlier reader accepts this one meets the earlier contract
-  pub read : (words file xf told : List ℕ) (r : ℕ) (words' xf' told' : List ℕ) → fileFault earlierLimit file ≡ 0
-      → LoadsFile words file xf told r words' xf' told' → LoadsInto (readRefusal earlierLimit file (length xf)) words file xf r words' xf'
+  -- "Files written before keep their meaning byte by byte": of a file that the earlier call accepts this one meets the earlier contract
+  pub read-alike : (words file xf told : List ℕ) (r : ℕ) (words' xf' told' : List ℕ) → fileFault earlierLimit file ≡ 0
+      → LoadsFile streamLimit words file xf told r words' xf' told' → LoadsFile earlierLimit words file xf told r words' xf' told'
   -- and so it does of a head
-  pub read-head : (words head xf : List ℕ) (told r : ℕ) (words' xf' : List ℕ) (told' : ℕ) → headFault earlierLimit head ≡ 0
-      → LoadsHead words head xf told r words' xf' told' → LoadsInto (headRefusal earlierLimit head (length xf)) words head xf r words' xf'
-  -- of a stream that the earlier writer takes this one meets the earlier contract: the bytes are the same
-  pub written : (words xf stream out : List ℕ) (count r : ℕ) (out' : List ℕ) (count' : ℕ) → length stream ≤ earlierLimit
-      → PutsFile words xf stream out count r out' count'
-      → PutsBytes (recordRefusal earlierLimit (cpOf words) (bpOf words) (length xf) (length stream) (length out))
-      (fileBytes (recordingOf (cpOf words) (bpOf words) xf stream)) out count r out' count'
+  pub head-read-alike : (words head xf : List ℕ) (told r : ℕ) (words' xf' : List ℕ) (told' : ℕ) → headFault earlierLimit head ≡ 0
+      → LoadsHead streamLimit words head xf told r words' xf' told' → LoadsHead earlierLimit words head xf told r words' xf' told'
+  -- a file that the earlier call wrote is read by this one, and gives what was written
+  pub earlier-read : (words xf stream out : List ℕ) (count r : ℕ) (out' : List ℕ) (count' : ℕ) (other xf₀ told : List ℕ) (s : ℕ)
+      (words' xf' told' : List ℕ) → length words ≡ 327 → WordsFit words → WordsFit xf → length xf₀ ≡ xfCount
+      → PutsFile earlierLimit words xf stream out count r out' count' → r ≡ 0
+      → LoadsFile streamLimit other (take count' out') xf₀ told s words' xf' told' → ReadAgain words xf stream other out' s words' xf' told'
+  -- for a stream that the earlier call takes this one meets the earlier contract: the bytes are the same
+  pub written-alike : (words xf stream out : List ℕ) (count r : ℕ) (out' : List ℕ) (count' : ℕ) → length stream ≤ earlierLimit
+      → PutsFile streamLimit words xf stream out count r out' count' → PutsFile earlierLimit words xf stream out count r out' count'
+  -- and so it does of a head
+  pub head-written-alike : (words xf : List ℕ) (n : ℕ) (out : List ℕ) (count r : ℕ) (out' : List ℕ) (count' : ℕ) → n ≤ earlierLimit
+      → PutsHead streamLimit words xf n out count r out' count' → PutsHead earlierLimit words xf n out count r out' count'
   -- "An earlier reader refuses a file written with a longer stream by 20"
-  pub refused : (words xf stream out : List ℕ) (count r : ℕ) (out' : List ℕ) (count' : ℕ) → length words ≡ 327 → WordsFit words
-      → WordsFit xf → PutsFile words xf stream out count r out' count' → r ≡ 0 → earlierLimit < length stream
-      → TooLong earlierLimit (take count' out')
+  pub long-stream : (words xf stream out : List ℕ) (count r : ℕ) (out' : List ℕ) (count' : ℕ) (other xf₀ told : List ℕ) (s : ℕ)
+      (words' xf' told' : List ℕ) → length words ≡ 327 → WordsFit words → WordsFit xf → length xf₀ ≡ xfCount
+      → PutsFile streamLimit words xf stream out count r out' count' → r ≡ 0 → earlierLimit < length stream
+      → LoadsFile earlierLimit other (take count' out') xf₀ told s words' xf' told' → LeftAlone s other xf₀ told words' xf' told'
+  -- also where its head was written, and then the stream
+  pub long-stream-in-parts : (words xf stream out : List ℕ) (count r : ℕ) (out' : List ℕ) (count' : ℕ) (other xf₀ told : List ℕ) (s : ℕ)
+      (words' xf' told' : List ℕ) → length words ≡ 327 → WordsFit words → WordsFit xf → length xf₀ ≡ xfCount
+      → PutsHead streamLimit words xf (length stream) out count r out' count' → r ≡ 0 → earlierLimit < length stream
+      → LoadsFile earlierLimit other (take count' out' ++ stream) xf₀ told s words' xf' told' → LeftAlone s other xf₀ told words' xf' told'

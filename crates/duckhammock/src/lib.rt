@@ -216,7 +216,7 @@ pub extern "C" fn duckhammock_read_recording(
     xf: &mut [u32],
     stream: &mut [u32; 2],
 ) -> u32
-    ensures { λ r. ⌜ LoadsFile (now (state .entry)) (now (file .entry)) (now (xf .entry)) (now (stream .entry))
+    ensures { λ r. ⌜ LoadsFile streamLimit (now (state .entry)) (now (file .entry)) (now (xf .entry)) (now (stream .entry))
         r (now (state .exit)) (now (xf .exit)) (now (stream .exit)) ⌝ }
 {
     filing::read(state, file, xf, stream)
@@ -230,7 +230,7 @@ pub extern "C" fn duckhammock_read_recording_head(
     xf: &mut [u32],
     length: &mut u32,
 ) -> u32
-    ensures { λ r. ⌜ LoadsHead (now (state .entry)) (now (head .entry)) (now (xf .entry)) (now (length .entry))
+    ensures { λ r. ⌜ LoadsHead streamLimit (now (state .entry)) (now (head .entry)) (now (xf .entry)) (now (length .entry))
         r (now (state .exit)) (now (xf .exit)) (now (length .exit)) ⌝ }
 {
     filing::read_head(state, head, xf, length)
@@ -261,7 +261,7 @@ pub extern "C" fn duckhammock_write_recording(
     output: &mut [u8],
     written: &mut u32,
 ) -> u32
-    ensures { λ r. ⌜ PutsFile (now (state .entry)) (now (xf .entry)) (now (stream .entry)) (now (output .entry)) (now (written .entry))
+    ensures { λ r. ⌜ PutsFile streamLimit (now (state .entry)) (now (xf .entry)) (now (stream .entry)) (now (output .entry)) (now (written .entry))
         r (now (output .exit)) (now (written .exit)) ⌝ }
 {
     filing::write(state, xf, stream, output, written)
@@ -276,7 +276,7 @@ pub extern "C" fn duckhammock_write_recording_head(
     output: &mut [u8],
     written: &mut u32,
 ) -> u32
-    ensures { λ r. ⌜ PutsHead (now (state .entry)) (now (xf .entry)) length (now (output .entry)) (now (written .entry))
+    ensures { λ r. ⌜ PutsHead streamLimit (now (state .entry)) (now (xf .entry)) length (now (output .entry)) (now (written .entry))
         r (now (output .exit)) (now (written .exit)) ⌝ }
 {
     filing::write_head(state, xf, length, output, written)

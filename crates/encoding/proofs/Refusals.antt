@@ -1,20 +1,15 @@
 -- What a refusal leaves: its number is not 0, so everything that was lent is what it was.
-use mathlib.Core.Path.{_≡_, refl, sym, ap, _∙_, subst}
-use mathlib.Core.Bool.{false, cond}
+use mathlib.Core.Path.{_≡_, refl, ap}
+use mathlib.Core.Bool.{cond}
 use mathlib.Core.List.{List, [], _∷_}
-use Prim.Native.Nat.{ℕ, zero, suc, _≤_}
-use native.Mathlib.Nat.{not-suc-le-zero}
+use Prim.Native.Nat.{ℕ, zero, suc}
 use native.Mathlib.Omega.{arith}
 use lib.Dec.{eqb}
 use borrow.Author.Tests.{ne-eqb}
 use Rattle.refusal.specs.Number.{number}
 use Rattle.refusal.specs.declared.Reason.{Reason}
-use Rattle.refusal.proofs.Positive.{number-some}
+use Rattle.refusal.proofs.Positive.{not-zero}
 use Rattle.encoding.specs.Told.{firstOf}
-
-pub not-zero : (reason : Reason) {r : ℕ} → r ≡ number reason → eqb r 0 ≡ false
-not-zero reason {r} e =
-    ne-eqb r 0 (λ z. not-suc-le-zero (subst (λ (n : ℕ). 1 ≤ n) (sym e ∙ z) (number-some reason)))
 
 -- what was lent, list or number
 pub stays : (reason : Reason) {r : ℕ} → r ≡ number reason → (new old : List ℕ) → old ≡ cond (eqb r 0) new old

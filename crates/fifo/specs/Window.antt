@@ -16,7 +16,8 @@ sizeLimit = 1048576
 abbrev pub sizeOf : Window → ℕ
 sizeOf w = w .end - w .start
 
--- the window's rules: "Start and size are multiples of 32 .. Size is 256 to" the limit. "Both pointers p satisfy start <= p < end."
+-- the window's rules: "Start and size are multiples of 32 .. Size is 256 to 65,536", with L9 to the limit. "Both pointers p satisfy
+-- start <= p < end."
 pub record Valid (w : Window) : Type 0 where
   pub least : 256 ≤ sizeOf w
   pub most : sizeOf w ≤ sizeLimit

@@ -22,7 +22,7 @@ fn save(state: &mut [u32; 327], registers: Registers)
 
 // Reads a whole file: the registers, with no draw open, the XF words, where the stream stands and how long it is.
 pub fn read(state: &mut [u32; 327], file: &[u8], xf: &mut [u32], stream: &mut [u32; 2]) -> u32
-    ensures { λ r. ⌜ LoadsFile (now (state .entry)) (now (file .entry)) (now (xf .entry)) (now (stream .entry))
+    ensures { λ r. ⌜ LoadsFile streamLimit (now (state .entry)) (now (file .entry)) (now (xf .entry)) (now (stream .entry))
         r (now (state .exit)) (now (xf .exit)) (now (stream .exit)) ⌝ }
 {
     let loaded = recordreader::read(file, xf);
@@ -40,7 +40,7 @@ pub fn read(state: &mut [u32; 327], file: &[u8], xf: &mut [u32], stream: &mut [u
 
 // Reads the first 18,016 bytes of a file so, and tells how long its stream is.
 pub fn read_head(state: &mut [u32; 327], head: &[u8], xf: &mut [u32], length: &mut u32) -> u32
-    ensures { λ r. ⌜ LoadsHead (now (state .entry)) (now (head .entry)) (now (xf .entry)) (now (length .entry))
+    ensures { λ r. ⌜ LoadsHead streamLimit (now (state .entry)) (now (head .entry)) (now (xf .entry)) (now (length .entry))
         r (now (state .exit)) (now (xf .exit)) (now (length .exit)) ⌝ }
 {
     let loaded = recordreader::read_head(head, xf);
@@ -86,7 +86,7 @@ pub fn write(
     output: &mut [u8],
     written: &mut u32,
 ) -> u32
-    ensures { λ r. ⌜ PutsFile (now (state .entry)) (now (xf .entry)) (now (stream .entry)) (now (output .entry)) (now (written .entry))
+    ensures { λ r. ⌜ PutsFile streamLimit (now (state .entry)) (now (xf .entry)) (now (stream .entry)) (now (output .entry)) (now (written .entry))
         r (now (output .exit)) (now (written .exit)) ⌝ }
 {
     let cp = words::cp(state);
@@ -103,7 +103,7 @@ pub fn write_head(
     output: &mut [u8],
     written: &mut u32,
 ) -> u32
-    ensures { λ r. ⌜ PutsHead (now (state .entry)) (now (xf .entry)) stream (now (output .entry)) (now (written .entry))
+    ensures { λ r. ⌜ PutsHead streamLimit (now (state .entry)) (now (xf .entry)) stream (now (output .entry)) (now (written .entry))
         r (now (output .exit)) (now (written .exit)) ⌝ }
 {
     let cp = words::cp(state);

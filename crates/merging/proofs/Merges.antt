@@ -7,14 +7,14 @@ use native.Mathlib.Omega.{arith}
 use lib.Bits.{bitOr}
 use lib.Dec.{eqb}
 use lib.ListN.{length, take, set, length-set}
-use borrow.Author.Tests.{eqb-true, ne-eqb}
+use borrow.Author.Tests.{eqb-true}
 use Rattle.laws.specs.Values.{upTo}
 use Rattle.laws.proofs.Cases.{and-left, and-right}
 use Rattle.laws.proofs.Filled.{fill-none, fill-next, fill-all}
 use Rattle.refusal.specs.Number.{number}
 use Rattle.refusal.specs.declared.Reason.{Reason}
 use Rattle.refusal.specs.declared.Reason.the-variants.{PatchLength}
-use Rattle.refusal.proofs.Positive.{number-some}
+use Rattle.refusal.proofs.Positive.{number-some, not-zero}
 use Rattle.effect.specs.Effect.{masked}
 use Rattle.patch.specs.declared.Checked.the-variants.{Accepted, Refused}
 use Rattle.patch.specs.Patch.{bpCount, Patch, patchOf, maskAt, numberAt, isSized, faultOf, IsAccepted, mergedOf}
@@ -89,9 +89,7 @@ module _ (a b out : Patch) where
 
   -- a refusal leaves the lent pair as it was
   refuses : (r : Reason) → mergeRefusal a b out ≡ number r → Merges a b out (Refused r) out
-  refuses r e =
-      let f : eqb (mergeRefusal a b out) 0 ≡ false = ne-eqb (mergeRefusal a b out) 0 (λ z. omega (arith, number-some r)) in
-      record { answer-is = sym e; out-is = rw f }
+  refuses r e = record { answer-is = sym e; out-is = rw (not-zero r e) }
 
   not-true : (b : Bool) → not b ≡ true → b ≡ false
   not-true true e = sym e

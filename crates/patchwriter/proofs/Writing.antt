@@ -7,13 +7,13 @@ use native.Mathlib.Numerals.{add-one}
 use native.Mathlib.Omega.{arith}
 use lib.Dec.{eqb, ltb}
 use lib.ListN.{length, getD, take, drop, length-append, length-take, length-drop}
-use borrow.Author.Tests.{ne-eqb, lt-ltb, le-ltb}
+use borrow.Author.Tests.{lt-ltb, le-ltb}
 use borrow.Rule.Slice.PartMut.{putMid}
 use Rattle.laws.proofs.Pieces.{Pieces, pieces-none, pieces-next, pieces-fit, pieces-all, lent-rest}
 use Rattle.refusal.specs.Number.{number}
 use Rattle.refusal.specs.declared.Reason.{Reason}
 use Rattle.refusal.specs.declared.Reason.the-variants.{OutputShort}
-use Rattle.refusal.proofs.Positive.{number-some}
+use Rattle.refusal.proofs.Positive.{number-some, not-zero}
 use Rattle.command.specs.Command.{loadBp}
 use Rattle.effect.specs.Effect.{maskPlace}
 use Rattle.writer.specs.declared.Written.{Written}
@@ -164,7 +164,7 @@ writing-put {w} {out₀} {out} {out'} {q} {at} {next} {register} {n} h e =
 module _ (p : Patch) (out : List ℕ) where
   refuses : (r : Reason) → writeRefusal p (length out) ≡ number r → WritesPatch p out (Refused r) out
   refuses r e =
-      let f : eqb (writeRefusal p (length out)) 0 ≡ false = ne-eqb (writeRefusal p (length out)) 0 (λ z. omega (arith, number-some r)) in
+      let f : eqb (writeRefusal p (length out)) 0 ≡ false = not-zero r e in
       record { answer-is = rw f (ap (λ (n : ℕ). n ∷ []) (sym e)); out-is = rw f }
 
   pub by-fault : (r : Reason) → number r ≡ faultOf p → WritesPatch p out (Refused r) out

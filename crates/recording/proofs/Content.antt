@@ -18,11 +18,11 @@ use Rattle.command.specs.Look.{xfCount}
 use Rattle.machine.specs.Gate.{allBelow, bpFits, basesOf, stridesOf, cpFits, drawFits, registersFit}
 use Rattle.machine.proofs.Below.{below-at, below-all}
 use Rattle.recording.specs.Format.{bpFrom, cpFrom, xfFrom, streamCountAt, streamAt, fileNumber, contentOf}
-use Rattle.recording.specs.Faults.{unlessBelow, unlessWithin, fileFault}
+use Rattle.recording.specs.Faults.{unlessBelow, fileFault}
 use Rattle.recording.specs.Answers.{contentRefusal, recordRefusal}
 use Rattle.recording.specs.Promises.{Recordable, writerAnswer}
-use Rattle.recording.proofs.Classes.{of-bp, of-base, of-stride, of-stream-count}
-use Rattle.recording.proofs.Sound.{SoundAt, sound, long, Clean, clean}
+use Rattle.recording.proofs.Classes.{of-bp, of-base, of-stride}
+use Rattle.recording.proofs.Sound.{SoundAt, sound, long, told-within, Clean, clean}
 
 -- ---- a content that the writer takes
 
@@ -73,13 +73,6 @@ below-by v n e = go (ltb v n) refl e
   where
     go : (t : Bool) → ltb v n ≡ t → _≡_ {A = ℕ} (cond t 0 21) 0 → v < n
     go true p q = ltb-true v n p
-    go false p q = absurd (omega arith)
-
-pub within-by : (v n : ℕ) → unlessWithin v n ≡ 0 → v ≤ n
-within-by v n e = go (leb v n) refl e
-  where
-    go : (t : Bool) → leb v n ≡ t → _≡_ {A = ℕ} (cond t 0 20) 0 → v ≤ n
-    go true p q = leb-true v n p
     go false p q = absurd (omega arith)
 
 module _ (limit : ℕ) (file : List ℕ) (o : Octets file) (e : fileFault limit file ≡ 0) where
@@ -137,10 +130,7 @@ module _ (limit : ℕ) (file : List ℕ) (o : Octets file) (e : fileFault limit 
       rw (b, t)
 
   short : length (drop streamAt file) ≤ limit
-  short =
-      let told = fileNumber file streamCountAt in
-      let f = sym (of-stream-count limit streamCountAt told (omega arith)) ∙ s streamCountAt (lit< tt) .fault in
-      omega (arith, within-by told limit f, n .stream-told)
+  short = let m = told-within limit file (n .head-clear) in omega (arith, m, n .stream-told)
 
   fit : (from count : ℕ) → WordsFit (wordsAt file (4 * from) count)
   fit from count =

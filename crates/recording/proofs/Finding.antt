@@ -7,11 +7,11 @@ use native.Mathlib.Numerals.{add-one}
 use native.Mathlib.Omega.{arith}
 use lib.Dec.{eqb}
 use lib.ListN.{length}
-use borrow.Author.Tests.{eqb-true, ne-eqb, lt-ltb, le-ltb}
+use borrow.Author.Tests.{eqb-true, lt-ltb, le-ltb}
 use Rattle.laws.proofs.Cases.{tested, order}
 use Rattle.refusal.specs.Number.{number}
 use Rattle.refusal.specs.declared.Reason.{Reason}
-use Rattle.refusal.proofs.Positive.{number-some}
+use Rattle.refusal.proofs.Positive.{number-some, not-zero}
 use Rattle.refusal.proofs.First.{or-some, or-zero}
 use Rattle.recording.specs.Format.{numberCount, streamAt, fileNumber}
 use Rattle.recording.specs.Faults.{numberFault, firstFault, firstPlace, headFault, headPlace}
@@ -44,7 +44,7 @@ module _ (limit : ℕ) (file : List ℕ) where
           le-ltb (length file) (4 * k + 4) w,
           ← e,
           or-some (number reason) (firstFault limit file (numberCount - (k + 1)) (suc k)) (number-some reason),
-          ne-eqb (number reason) 0 (λ z. omega (arith, z, number-some reason)),
+          not-zero reason refl,
         )
 
     pub found-cut : k < numberCount → length file < 4 * k + 4 → foundFrom k ≡ 22 ∷ length file ∷ []

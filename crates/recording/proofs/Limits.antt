@@ -1,124 +1,128 @@
 -- What specs/Limits says.
 use mathlib.Core.Path.{_≡_, refl, sym, ap, _∙_}
-use mathlib.Core.Bool.{Bool, cond}
-use mathlib.Core.Logic.{⊎-elim}
+use mathlib.Core.Bool.{false}
+use mathlib.Core.Logic.{_⊎_, inl, inr, ⊎-elim}
 use mathlib.Core.List.{List}
-use Prim.Native.Nat.{ℕ, zero, suc, _+_, _-_, _*_, _^_, _<_, _≤_}
+use Prim.Native.Nat.{ℕ, zero, suc, _+_, _*_, _^_, _<_, _≤_}
 use native.Mathlib.Omega.{arith}
-use lib.Dec.{leb, eqb, lit<}
+use lib.Dec.{eqb}
 use lib.ListN.{length}
-use borrow.Author.Tests.{le-leb, lt-leb, lt-ltb, le-ltb}
-use Rattle.laws.proofs.Cases.{order}
+use borrow.Author.Tests.{eqb-true, eqb-false, le-leb, lt-leb, lt-ltb, le-ltb}
+use Rattle.laws.proofs.Cases.{tested, order}
 use Rattle.refusal.specs.Number.{orElse}
-use Rattle.command.specs.Look.{xfCount}
-use Rattle.recording.specs.Format.{Recording, fileBytes, streamCountAt, numberCount, streamAt, fileNumber}
-use Rattle.recording.specs.Faults.{numberFault, firstFault, firstPlace, headFault, headPlace, restFault, fileFault}
+use Rattle.recording.specs.Format.{Recording, fileBytes, streamCountAt, numberCount, fileNumber}
+use Rattle.recording.specs.Faults.{numberFault, firstFault, firstPlace, headFault, headPlace, fileFault}
 use Rattle.recording.specs.Answers.{headRefusal, readRefusal, contentRefusal, recordRefusal, headRecordRefusal}
-use Rattle.recording.specs.Promises.{Recordable, writerAnswer}
-use Rattle.recording.specs.Limits.{ReadAlike, WrittenAlike, TooLong, LimitPromises}
+use Rattle.recording.specs.Promises.{Recordable}
+use Rattle.recording.specs.Limits.{ReadAlike, WrittenAlike, LongStream, LimitPromises}
 use Rattle.recording.proofs.Classes.{of-stream-count}
-use Rattle.recording.proofs.Sound.{SoundAt, sound, clean}
-use Rattle.recording.proofs.Content.{within-by}
+use Rattle.recording.proofs.Sound.{Clean, clean, told-within}
 use Rattle.recording.proofs.Back.{accepted-back, last-count}
 
--- ---- two limits and one file
+-- a fault ends the search
+stops : (f rest : ℕ) → eqb f 0 ≡ false → orElse f rest ≡ f
+stops zero rest e = absurd (eqb-false 0 0 e refl)
+stops (suc f) rest e = refl
 
-module _ (a b : ℕ) (file : List ℕ) where
+module _ (a b : ℕ) (file : List ℕ) (raised : a ≤ b) where
+  -- what the search finds in n numbers from number k on: by both limits the same, or by the first one 20 at the stream's count
+  abbrev Same : ℕ → ℕ → Type 0
+  Same n k = (firstFault a file n k ≡ firstFault b file n k) × (firstPlace a file n k ≡ firstPlace b file n k)
+
+  abbrev Long : ℕ → ℕ → Type 0
+  Long n k = (firstFault a file n k ≡ 20) × (firstPlace a file n k ≡ 4 * streamCountAt)
+
   -- before the stream's count no number is held to the limit
   before : (k v : ℕ) → k < streamCountAt → numberFault a k v ≡ numberFault b k v
   unfolding numberFault
   before k v h = rw (lt-ltb k streamCountAt h)
 
-  abbrev told : ℕ
-  told = fileNumber file streamCountAt
+  -- the fault of a number by both limits
+  judged : (k v : ℕ) → k < numberCount → (numberFault a k v ≡ numberFault b k v) ⊎ ((numberFault a k v ≡ 20) × (k ≡ streamCountAt))
+  judged k v h =
+      ⊎-elim (λ l. inl (before k v l))
+      (λ l. ⊎-elim (λ o. inr (of-stream-count a k v l ∙ rw (lt-leb v a o), omega (arith, h, l)))
+      (λ o. inl (rw (of-stream-count a k v l, of-stream-count b k v l, le-leb v a o, le-leb v b (omega (arith, o, raised)))))
+      (order a v)) (order k streamCountAt)
 
-  module _ (in-a : told ≤ a) (in-b : told ≤ b) where
-    same-number : (k : ℕ) → k < numberCount → numberFault a k (fileNumber file k) ≡ numberFault b k (fileNumber file k)
-    same-number k h =
-        ⊎-elim (λ l. before k (fileNumber file k) l)
-        (λ l.
-        let e : k ≡ streamCountAt = omega (arith, h, l) in
-        let v : fileNumber file k ≡ told = ap (fileNumber file) e in
-        rw (of-stream-count a k (fileNumber file k) l, of-stream-count b k (fileNumber file k) l, v, le-leb told a in-a, le-leb told b in-b))
-        (order k streamCountAt)
+  found : (n k : ℕ) → k + n ≤ numberCount → Same n k ⊎ Long n k
+  unfolding firstFault firstPlace
+  found zero k h = inl (refl, refl)
+  found (suc n) k h =
+      let v = fileNumber file k in
+      elim (order (length file) (4 * k + 4)) [
+        | inl l ↦ inl (rw (lt-ltb (length file) (4 * k + 4) l), rw (lt-ltb (length file) (4 * k + 4) l))
+        | inr l ↦
+            let w = le-ltb (length file) (4 * k + 4) l in
+            elim (judged k v (omega arith)) [
+              | inr e ↦ inr (rw (w, e .0), rw (w, e .0) (ap (λ (m : ℕ). 4 * m) (e .1)))
+              | inl e ↦
+                  elim (found n (suc k) (omega arith)) [
+                    | inl s ↦ inl (rw (w, e, s .0), rw (w, e, s .1))
+                    | inr s ↦
+                        elim (tested (eqb (numberFault b k v) 0)) [
+                          | inl z ↦
+                              let q : numberFault b k v ≡ 0 = eqb-true (numberFault b k v) 0 z in
+                              inr (rw (w, e, q) (s .0), rw (w, e, q) (s .1))
+                          | inr z ↦ inl (rw (w, e) (stops (numberFault b k v) _ z ∙ sym (stops (numberFault b k v) _ z)), rw (w, e, z))
+                        ]
+                  ]
+            ]
+      ]
 
-    same-from : (n k : ℕ) → k + n ≤ numberCount
-        → (firstFault a file n k ≡ firstFault b file n k) × (firstPlace a file n k ≡ firstPlace b file n k)
-    unfolding firstFault firstPlace
-    same-from zero k h = (refl, refl)
-    same-from (suc n) k h =
-        let e = same-number k (omega arith) in
-        let next = same-from n (suc k) (omega arith) in
-        (rw (e, next .0), rw (e, next .1))
+  alike : Same numberCount 0 → ReadAlike a b file
+  unfolding readRefusal headRefusal fileFault headFault headPlace
+  alike s = record {
+    whole = λ xf. rw (s .0);
+    head = λ xf. rw (s .0);
+    place = s .1;
+  }
 
-    alike : ReadAlike a b file
-    unfolding readRefusal headRefusal fileFault headFault headPlace
-    alike =
-        let e = same-from numberCount 0 (omega arith) in
-        record {
-          whole = λ xf. rw (e .0);
-          head = λ xf. rw (e .0);
-          place = e .1;
-        }
+  long : Long numberCount 0 → LongStream a file
+  unfolding readRefusal headRefusal fileFault headFault headPlace
+  long s = record {
+    whole = λ xf. rw (s .0);
+    head = λ xf. rw (s .0);
+    place = s .1;
+  }
 
--- the count of an accepted file is within the limit
-pub counted : (limit : ℕ) (file : List ℕ) → headFault limit file ≡ 0 → fileNumber file streamCountAt ≤ limit
-counted limit file e =
-    let told = fileNumber file streamCountAt in
-    within-by told limit (sym (of-stream-count limit streamCountAt told (omega arith)) ∙ sound limit file e streamCountAt (lit< tt) .fault)
+  alike-or-long : ReadAlike a b file ⊎ LongStream a file
+  alike-or-long = ⊎-elim (λ s. inl (alike s)) (λ s. inr (long s)) (found numberCount 0 (omega arith))
 
-kept : (earlier later : ℕ) (file : List ℕ) → earlier ≤ later → fileFault earlier file ≡ 0 → ReadAlike earlier later file
-kept earlier later file h e =
-    let c = counted earlier file (clean earlier file e .head-clear) in
-    alike earlier later file c (omega (arith, c, h))
+  -- a file whose head the first reader accepts is read alike
+  pub head-alike : headFault a file ≡ 0 → ReadAlike a b file
+  unfolding headFault
+  head-alike e = ⊎-elim alike (λ s. absurd (omega (arith, e, s .0))) (found numberCount 0 (omega arith))
 
--- ---- two limits and one content
+  -- one whose head only the second one accepts has a longer stream than the first one takes
+  over : headFault b file ≡ 0 → a < fileNumber file streamCountAt → LongStream a file
+  unfolding headFault
+  over e h =
+      ⊎-elim (λ s. let n = told-within a file (s .0 ∙ e) in absurd (omega (arith, n, h))) long (found numberCount 0 (omega arith))
 
-written-alike : (earlier later : ℕ) (r : Recording) → earlier ≤ later → length (r .stream) ≤ earlier → WrittenAlike earlier later r
+read-alike : (earlier later : ℕ) (file : List ℕ) → earlier ≤ later → fileFault earlier file ≡ 0 → ReadAlike earlier later file
+read-alike earlier later file h e = head-alike earlier later file h (clean earlier file e .head-clear)
+
+written-alike : (earlier later : ℕ) (cp bp : List ℕ) (xf stream : ℕ) → earlier ≤ later → stream ≤ earlier
+    → WrittenAlike earlier later cp bp xf stream
 unfolding recordRefusal headRecordRefusal contentRefusal
-written-alike earlier later r h s =
-    let a = le-leb (length (r .stream)) earlier s in
-    let b = le-leb (length (r .stream)) later (omega arith) in
+written-alike earlier later cp bp xf stream h s =
+    let a = le-leb stream earlier s in
+    let b = le-leb stream later (omega arith) in
     record { whole = λ room. rw (a, b); head = λ room. rw (a, b) }
 
--- ---- a stream that is longer than the earlier limit
-
-module _ (earlier later : ℕ) (file : List ℕ) (clear : headFault later file ≡ 0) (over : earlier < fileNumber file streamCountAt) where
-  at-count : (k : ℕ) → k ≡ streamCountAt → numberFault earlier k (fileNumber file k) ≡ 20
-  at-count k e =
-      of-stream-count earlier k (fileNumber file k) (omega (arith, e))
-      ∙ rw (ap (fileNumber file) e, lt-leb (fileNumber file streamCountAt) earlier over)
-
-  refused-from : (n k : ℕ) → k + n ≡ streamCountAt
-      → (firstFault earlier file (suc n) k ≡ 20) × (firstPlace earlier file (suc n) k ≡ 4 * streamCountAt)
-  unfolding firstFault firstPlace
-  refused-from zero k h =
-      let e : k ≡ streamCountAt = omega (arith, h) in
-      let w = le-ltb (length file) (4 * k + 4) (sound later file clear k (omega (arith, e)) .whole) in
-      (rw (w, at-count k e), rw (w, at-count k e) (omega (arith, e)))
-  refused-from (suc n) k h =
-      let s = sound later file clear k (omega arith) in
-      let w = le-ltb (length file) (4 * k + 4) (s .whole) in
-      let e = before earlier later file k (fileNumber file k) (omega arith) ∙ s .fault in
-      let next = refused-from n (suc k) (omega arith) in
-      (rw (w, e) (next .0), rw (w, e) (next .1))
-
-  refused : TooLong earlier file
-  unfolding fileFault headFault headPlace
-  refused =
-      let e = refused-from streamCountAt 0 (omega arith) in
-      record { whole = rw (e .0); head = e .0; place = e .1 }
-
-too-long : (earlier later : ℕ) (r : Recording) → later < 2 ^ 32 → Recordable later r → earlier < length (r .stream)
-    → TooLong earlier (fileBytes r)
-too-long earlier later r n w h =
-    refused earlier later (fileBytes r) (clean later (fileBytes r) (accepted-back later r n w) .head-clear)
-    (omega (arith, h, last-count later r n w))
+long-stream : (earlier later : ℕ) (r : Recording) → later < 2 ^ 32 → Recordable later r → earlier < length (r .stream)
+    → LongStream earlier (fileBytes r)
+long-stream earlier later r n w h =
+    let c = clean later (fileBytes r) (accepted-back later r n w) in
+    let t = last-count later r n w in
+    let m = told-within later (fileBytes r) (c .head-clear) in
+    over earlier later (fileBytes r) (omega (arith, h, t, m)) (c .head-clear) (omega (arith, h, t))
 
 pub limit-promises : LimitPromises
 limit-promises = record {
-  within-both = alike;
-  kept = kept;
+  read-alike = read-alike;
+  alike-or-long = alike-or-long;
   written-alike = written-alike;
-  too-long = too-long;
+  long-stream = long-stream;
 }

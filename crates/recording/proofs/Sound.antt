@@ -5,10 +5,10 @@ use mathlib.Core.List.{List, _++_, append-assoc}
 use Prim.Native.Nat.{ℕ, zero, suc, _+_, _-_, _*_, _<_, _≤_}
 use native.Mathlib.Nat.{add-zero}
 use native.Mathlib.Omega.{arith}
-use lib.Dec.{ltb, eqb, lit<}
+use lib.Dec.{leb, ltb, eqb, lit<}
 use lib.ListN.{length, take, drop, length-drop, take-append-drop}
 use lib.Seq.{drop-drop, take-add}
-use borrow.Author.Tests.{ltb-false, eqb-true}
+use borrow.Author.Tests.{leb-true, ltb-false, eqb-true}
 use Rattle.laws.proofs.Filled.{length-upTo}
 use Rattle.refusal.proofs.First.{or-zero}
 use Rattle.octets.specs.BigEndian.{Octets, bytesOf, wordsAt}
@@ -18,8 +18,8 @@ use Rattle.places.specs.Places.{cpCount, bpCount}
 use Rattle.command.specs.Look.{xfCount}
 use Rattle.recording.specs.Format.{section, headBytes, fileBytes, bpFrom, cpCountAt, cpFrom, xfCountAt, xfFrom, streamCountAt}
 use Rattle.recording.specs.Format.{numberCount, streamAt, fileNumber, contentOf}
-use Rattle.recording.specs.Faults.{numberFault, firstFault, headFault, restFault, fileFault}
-use Rattle.recording.proofs.Classes.{of-bp-count, of-cp-count, of-xf-count}
+use Rattle.recording.specs.Faults.{unlessWithin, numberFault, firstFault, headFault, restFault, fileFault}
+use Rattle.recording.proofs.Classes.{of-bp-count, of-cp-count, of-xf-count, of-stream-count}
 
 -- number k is whole, and has no fault
 pub record SoundAt (limit : ℕ) (file : List ℕ) (k : ℕ) : Type 0 where
@@ -51,6 +51,20 @@ module _ (limit : ℕ) (file : List ℕ) (clear : headFault limit file ≡ 0) wh
   -- all numbers are there
   pub long : streamAt ≤ length file
   long = let w = sound streamCountAt (lit< tt) .whole in omega (arith, w)
+
+within-by : (v n : ℕ) → unlessWithin v n ≡ 0 → v ≤ n
+within-by v n e = go (leb v n) refl e
+  where
+    go : (t : Bool) → leb v n ≡ t → _≡_ {A = ℕ} (cond t 0 20) 0 → v ≤ n
+    go true p q = leb-true v n p
+    go false p q = absurd (omega (arith, q))
+
+-- the stream's count is within the limit
+pub told-within : (limit : ℕ) (file : List ℕ) → headFault limit file ≡ 0 → fileNumber file streamCountAt ≤ limit
+told-within limit file clear =
+    let told = fileNumber file streamCountAt in
+    within-by told limit
+    (sym (of-stream-count limit streamCountAt told (omega arith)) ∙ sound limit file clear streamCountAt (lit< tt) .fault)
 
 equal : (v n : ℕ) → _≡_ {A = ℕ} (cond (eqb v n) 0 20) 0 → v ≡ n
 equal v n e = go (eqb v n) refl e

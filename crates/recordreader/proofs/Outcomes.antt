@@ -3,14 +3,13 @@ use mathlib.Core.Path.{_≡_, sym, ap, _∙_}
 use mathlib.Core.Bool.{false}
 use mathlib.Core.List.{List, [], _∷_}
 use Prim.Native.Nat.{ℕ, _-_}
-use native.Mathlib.Omega.{arith}
 use lib.Dec.{eqb}
 use lib.ListN.{length, getD, length-drop}
 use borrow.Author.Tests.{eq-eqb, ne-eqb}
 use Rattle.refusal.specs.Number.{number}
 use Rattle.refusal.specs.declared.Reason.{Reason}
 use Rattle.refusal.specs.declared.Reason.the-variants.{XfMemoryLength}
-use Rattle.refusal.proofs.Positive.{number-some}
+use Rattle.refusal.proofs.Positive.{number-some, not-zero}
 use Rattle.refusal.proofs.First.{or-some}
 use Rattle.command.specs.Look.{xfCount}
 use Rattle.machine.specs.declared.Registers.{Registers}
@@ -25,10 +24,6 @@ use Rattle.recordreader.specs.declared.HeadAnswer.the-variants as head
 use Rattle.recordreader.specs.declared.ReadAnswer.the-variants as whole
 use Rattle.recordreader.specs.declared.FileRead.{FileRead}
 use Rattle.recordreader.specs.Reading.{Loads, ReadsHead, ReadsFile}
-
--- a reason's number is none for 0
-some : (n : ℕ) (r : Reason) → n ≡ number r → eqb n 0 ≡ false
-some n r e = ne-eqb n 0 (λ z. omega (arith, e, z, number-some r))
 
 -- ---- what the search found
 pub found-at : {f : Fault} {a b p : ℕ} {r : Reason} → meaningOfFault f ≡ a ∷ b ∷ [] → f ≡ At p r → a ≡ number r
@@ -78,7 +73,7 @@ module _ (file xf : List ℕ) where
   pub head-refused : (r : Reason) (g : Registers) → ofHead ≡ number r → g ≡ freshMachine .registers
       → ReadsHead file xf (record { registers = g; answer = head.Refused r }) xf
   head-refused r g e q =
-      let f : eqb ofHead 0 ≡ false = some ofHead r e in
+      let f : eqb ofHead 0 ≡ false = not-zero r e in
       record { answer-is = rw f (ap (λ (n : ℕ). n ∷ []) (sym e)); loads = refused-loads ofHead g f q }
 
   pub head-read : (n : ℕ) (g : Registers) (xf' : List ℕ) → ofHead ≡ 0 → n ≡ fileNumber file streamCountAt → g ≡ registersIn file
@@ -88,7 +83,7 @@ module _ (file xf : List ℕ) where
   pub file-refused : (r : Reason) (l : FileRead) → ofFile ≡ number r → l .registers ≡ freshMachine .registers → l .answer ≡ whole.Refused r
       → ReadsFile file xf l xf
   file-refused r l e q a =
-      let f : eqb ofFile 0 ≡ false = some ofFile r e in
+      let f : eqb ofFile 0 ≡ false = not-zero r e in
       record { answer-is = rw (f, a) (ap (λ (n : ℕ). n ∷ []) (sym e)); loads = refused-loads ofFile (l .registers) f q }
 
   pub file-read : (n : ℕ) (g : Registers) (xf' : List ℕ) → ofFile ≡ 0 → n ≡ length (contentOf file .stream) → g ≡ registersIn file

@@ -3,14 +3,13 @@ use mathlib.Core.Path.{_≡_, sym, ap}
 use mathlib.Core.Bool.{false}
 use mathlib.Core.List.{List, [], _∷_}
 use Prim.Native.Nat.{ℕ, _+_, _<_, _≤_}
-use native.Mathlib.Omega.{arith}
 use lib.Dec.{eqb}
 use lib.ListN.{length}
-use borrow.Author.Tests.{ne-eqb, lt-ltb, le-ltb}
+use borrow.Author.Tests.{lt-ltb, le-ltb}
 use Rattle.refusal.specs.Number.{number}
 use Rattle.refusal.specs.declared.Reason.{Reason}
 use Rattle.refusal.specs.declared.Reason.the-variants.{OutputShort}
-use Rattle.refusal.proofs.Positive.{number-some}
+use Rattle.refusal.proofs.Positive.{number-some, not-zero}
 use Rattle.refusal.proofs.First.{or-some}
 use Rattle.writer.specs.declared.Written.the-variants as written
 use Rattle.writer.specs.Write.{placed}
@@ -19,14 +18,10 @@ use Rattle.recording.specs.Faults.{streamLimit}
 use Rattle.recording.specs.Answers.{contentRefusal, recordRefusal, headRecordRefusal}
 use Rattle.recordwriter.specs.Writing.{WritesBytes}
 
--- a reason's number is none for 0
-some : (n : ℕ) (r : Reason) → n ≡ number r → eqb n 0 ≡ false
-some n r e = ne-eqb n 0 (λ z. omega (arith, e, z, number-some r))
-
 module _ (bytes out : List ℕ) where
   pub not-written : (n : ℕ) (r : Reason) → n ≡ number r → WritesBytes n bytes out (written.Refused r) out
   not-written n r e =
-      let f : eqb n 0 ≡ false = some n r e in
+      let f : eqb n 0 ≡ false = not-zero r e in
       record { answer-is = rw f (ap (λ (k : ℕ). k ∷ []) (sym e)); out-is = rw f }
 
   pub all-written : (n k : ℕ) (out' : List ℕ) → n ≡ 0 → k ≡ length bytes → out' ≡ placed bytes out

@@ -14,7 +14,7 @@ use Rattle.places.specs.Places.{cpCount, bpCount}
 use Rattle.command.specs.Look.{xfCount}
 use Rattle.recording.specs.Format.{recordingOf, section, headBytes, fileBytes, streamAt}
 use Rattle.recording.proofs.Sizes.{second, third, fourth, joined, head-length}
-use Rattle.recordwriter.specs.Putting.{over, PutsHead}
+use Rattle.recordwriter.specs.Putting.{over, HeadOver}
 
 -- a second piece right behind the first
 over-next : (out a b : List ℕ) (at next : ℕ) → at ≤ length out → next ≡ at + length a → over (over out at a) next b ≡ over out at (a ++ b)
@@ -61,7 +61,7 @@ section-put out counted v numbers at h e q =
 module _ (cp bp xf : List ℕ) (n : ℕ) (of-cp : length cp ≡ cpCount) (of-bp : length bp ≡ bpCount) (of-xf : length xf ≡ xfCount) where
   -- the three sections and the count, one after the other
   pub head-put : (out a b c d : List ℕ) → streamAt ≤ length out → a ≡ over out 0 (section bp) → b ≡ over a 1028 (section cp)
-      → c ≡ over b 1272 (section xf) → d ≡ over c 18012 (bytesOf 4 n) → PutsHead cp bp xf n out d
+      → c ≡ over b 1272 (section xf) → d ≡ over c 18012 (bytesOf 4 n) → HeadOver cp bp xf n out d
   head-put out a b c d h p q r s =
       let two : b ≡ over out 0 (section bp ++ section cp) =
       q ∙ ap (λ (x : List ℕ). over x 1028 (section cp)) p
@@ -77,7 +77,7 @@ module _ (cp bp xf : List ℕ) (n : ℕ) (of-cp : length cp ≡ cpCount) (of-bp 
       record { out-is = four; size = head-length cp bp xf n of-cp of-bp of-xf }
 
 -- the stream behind a head
-pub stream-put : (cp bp xf stream out o v : List ℕ) → PutsHead cp bp xf (length stream) out o → streamAt ≤ length out
+pub stream-put : (cp bp xf stream out o v : List ℕ) → HeadOver cp bp xf (length stream) out o → streamAt ≤ length out
     → v ≡ take (length stream) stream ++ drop (length stream) (take (length o - streamAt) (drop streamAt o))
     → putMid streamAt (length o - streamAt) o v ≡ over out 0 (fileBytes (recordingOf cp bp xf stream))
 unfolding fileBytes

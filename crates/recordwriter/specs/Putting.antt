@@ -10,6 +10,6 @@ abbrev pub over : List ℕ → ℕ → List ℕ → List ℕ
 over out at bytes = take at out ++ (bytes ++ drop (length bytes) (drop at out))
 
 -- a head over the front of an output
-pub record PutsHead (cp bp xf : List ℕ) (n : ℕ) (out out' : List ℕ) : Type 0 where
+pub record HeadOver (cp bp xf : List ℕ) (n : ℕ) (out out' : List ℕ) : Type 0 where
   pub out-is : out' ≡ over out 0 (headBytes cp bp xf n)
   pub size : length (headBytes cp bp xf n) ≡ streamAt

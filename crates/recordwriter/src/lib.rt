@@ -14,7 +14,7 @@ ghost use Rattle.recording.specs.Format.{recordingOf, section, streamAt};
 ghost use Rattle.recording.specs.Faults.{streamLimit};
 ghost use Rattle.recording.specs.Answers.{meaningOfVerdict, contentRefusal};
 ghost use Rattle.recordwriter.specs.Writing.{WritesHead, WritesFile};
-ghost use Rattle.recordwriter.specs.Putting.{over, PutsHead};
+ghost use Rattle.recordwriter.specs.Putting.{over, HeadOver};
 
 // The bytes where the sections of CP and of XF begin, and the count of the stream.
 const CP_COUNT_BYTE: usize = 1028;
@@ -63,7 +63,7 @@ fn put_section(out: &mut [u8], at: usize, numbers: &[u32])
 // Puts all that stands before the stream to the front of an output that has room for it.
 fn put_head(out: &mut [u8], cp: &[u32; 60], bp: &[u32; 256], xf: &[u32], stream: usize)
     requires { ⌜ (streamAt ≤ length (now out)) × ((length (now xf) ≡ xfCount) × (stream ≤ streamLimit)) ⌝ }
-    ensures { λ _. ⌜ PutsHead (now (cp .entry)) (now (bp .entry)) (now (xf .entry)) stream (now (out .entry)) (now (out .exit)) ⌝ }
+    ensures { λ _. ⌜ HeadOver (now (cp .entry)) (now (bp .entry)) (now (xf .entry)) stream (now (out .entry)) (now (out .exit)) ⌝ }
 {
     put_section(out, 0, bp);
     put_section(out, CP_COUNT_BYTE, cp);
@@ -71,7 +71,7 @@ fn put_head(out: &mut [u8], cp: &[u32; 60], bp: &[u32; 256], xf: &[u32], stream:
     put_number(out, STREAM_COUNT_BYTE, stream as u32);
 }
 
-// WritesBytes what stands before a stream of so many bytes to the front of the output, or says why not and writes nothing.
+// Writes what stands before a stream of so many bytes to the front of the output, or says why not and writes nothing.
 pub fn write_head(
     cp: &[u32; 60],
     bp: &[u32; 256],
@@ -92,7 +92,7 @@ pub fn write_head(
     Written::Bytes(HEAD_LENGTH as u32)
 }
 
-// WritesBytes a whole file to the front of the output, or says why not and writes nothing.
+// Writes a whole file to the front of the output, or says why not and writes nothing.
 pub fn write(cp: &[u32; 60], bp: &[u32; 256], xf: &[u32], stream: &[u8], out: &mut [u8]) -> Written
     ensures { λ r. ⌜ WritesFile (recordingOf (now (cp .entry)) (now (bp .entry)) (now (xf .entry)) (now (stream .entry)))
         (now (out .entry)) r (now (out .exit)) ⌝ }

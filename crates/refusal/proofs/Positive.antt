@@ -1,6 +1,10 @@
 -- No reason has the number 0, which stands for an accepted call.
-use Prim.Native.Nat.{_≤_}
-use lib.Dec.{lit≤}
+use mathlib.Core.Path.{_≡_}
+use mathlib.Core.Bool.{false}
+use Prim.Native.Nat.{ℕ, _≤_}
+use native.Mathlib.Omega.{arith}
+use lib.Dec.{eqb, lit≤}
+use borrow.Author.Tests.{ne-eqb}
 use Rattle.refusal.specs.Number.{number}
 use Rattle.refusal.specs.declared.Reason.{Reason}
 use Rattle.refusal.specs.declared.Reason.the-variants.{InvalidState, XfMemoryLength, VertexBufferShort, ReadDisabled, LinkedMode}
@@ -34,3 +38,7 @@ number-some WrongCount = lit≤ tt
 number-some NumberTooWide = lit≤ tt
 number-some FileShort = lit≤ tt
 number-some FileLong = lit≤ tt
+
+-- as a test
+pub not-zero : (reason : Reason) {n : ℕ} → n ≡ number reason → eqb n 0 ≡ false
+not-zero reason {n} e = ne-eqb n 0 (λ z. omega (arith, e, z, number-some reason))

@@ -65,7 +65,7 @@ abbrev pub gated : ℕ → State → Ended → Ended
 gated zero s e = e
 gated (suc r) s e = ended [] (suc r ∷ []) s
 
--- a run; "a run's higher limit counts as that"
+-- a run; of a limit above the most units: "a run's higher limit counts as that"
 unfoldable pub runOf : List ℕ → ℕ → State → Ended
 runOf ring limit s = gated (gateOf s (length ring)) s (steps ring (min limit runLimit) s)
 

@@ -24,7 +24,7 @@ pub struct Ran {
     pub stop: Stop,
 }
 
-// A run of units: 1 to 5 once, then takings until the limit, waiting or a refusal. More units than the most of a run count as that.
+// A run of units: 1 to 5 once, then takings until the limit, waiting or a refusal. A limit above the most units counts as that.
 pub fn run(
     fifo: Fifo,
     cp: &mut [u32; 60],

@@ -20,7 +20,7 @@ ghost use Rattle.running.specs.Stretch.{SizeKnown, TakesVertex};
 ghost use Rattle.running.specs.Run.{runLimit, stopOf, meaningOfStop, Arrives};
 
 // The most units of a run.
-pub const LIMIT: u32 = 1048575;
+pub const RUN_LIMIT: u32 = 1048575;
 
 // What a run leaves of the fifo and the draw, the units that it took, and why it stopped.
 pub struct Course {
@@ -34,7 +34,7 @@ pub struct Course {
 pub fn capped(limit: u32) -> u32
     ensures { λ r. ⌜ r ≡ min limit runLimit ⌝ }
 {
-    if limit < LIMIT { limit } else { LIMIT }
+    if limit < RUN_LIMIT { limit } else { RUN_LIMIT }
 }
 
 // Why a run stops at an answer.

@@ -13,6 +13,7 @@ use borrow.Author.Tests.{ne-eqb}
 use Rattle.laws.proofs.Cases.{tested}
 use Rattle.refusal.specs.Number.{number}
 use Rattle.refusal.specs.declared.Reason.the-variants.{InvalidState}
+use Rattle.refusal.proofs.Positive.{not-zero}
 use Rattle.command.specs.declared.Command.{Command}
 use Rattle.command.specs.declared.Draw.{Draw}
 use Rattle.command.specs.Command.{Found, unit, kindOf, numbersOf}
@@ -37,7 +38,6 @@ use Rattle.words.proofs.Fits.{held-is}
 use Rattle.stepping.specs.Calls.{lentOf, lentBy, Looks, TakesOne, Ends}
 use Rattle.stepping.specs.InPlace.{AheadKept}
 use Rattle.stepping.proofs.Placed.{kept-cp, kept-whole}
-use Rattle.encoding.proofs.Refusals.{not-zero}
 
 -- the state that is handed on is the one that the words say
 pub handed : (l xf vertex : List ℕ) {f : Fifo} {cp bp : List ℕ} {draw : Draw} → Held f draw ≡ frontOf l → cp ≡ cpOf l → bp ≡ bpOf l

@@ -124,8 +124,8 @@ lacking =
     ∷ row (aloneBytes [] (Open 2 0 3)) 1012
     ∷ []
 
--- document 02, L9: rings of 1,048,544 and 1,048,576 bytes are allowed, one of 1,048,608 gives 1; a ring of 1,048,576 holds 1,048,575, FFFFF
--- (hex), of which 030 tells FFFF and 032 F
+-- document 02, L9: rings of 1,048,544 and 1,048,576 bytes are allowed, one of 1,048,608 gives 1; a ring of 1,048,576 holds 1,048,575,
+-- FFFFF (hex), of which 030 tells FFFF and 032 F
 unfoldable pub largeRings : List Row
 largeRings =
     row (getD (countAnswer (filledTo 1048544 0x12345)) 1 0) 0x12345
@@ -164,8 +164,8 @@ said [] = []
 said (row a b ∷ l) = b ∷ said l
 
 pub worked : given rows ≡ said rows
-unfolding rows corrected lacking largeRings given said bitsAt modes counts formats shifts modeOf countOf formatOf fractionBits fractionOf indicesOf
-    directOf sizeOf offsetOf unknownAt anyUnknown refusalOf lengthOf
+unfolding rows corrected lacking largeRings given said bitsAt modes counts formats shifts modeOf countOf formatOf fractionBits
+    fractionOf indicesOf directOf sizeOf offsetOf unknownAt anyUnknown refusalOf lengthOf
     refusalAt attributeList directList componentList paddedList componentAt rawAt bigEndian componentOf upTo round toBits ofBits
     sizeLimit validBy countIn countAnswer whole lookCp xfWords xfAddress lookXf descriptorOf lookVertex byOpcode lookOf
     masked storedBp loadedBp halfOf listed computed readable valueOf readAnswer

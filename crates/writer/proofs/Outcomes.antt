@@ -7,12 +7,12 @@ use native.Mathlib.Omega.{arith}
 use lib.Dec.{leb, eqb}
 use lib.ListN.{length, take, drop, length-append}
 use lib.Seq.{take-at, drop-append-add, drop-drop, length-take-le}
-use borrow.Author.Tests.{not-false, ne-eqb, eqb-true, lt-ltb, le-ltb}
+use borrow.Author.Tests.{not-false, eqb-true, lt-ltb, le-ltb}
 use Rattle.laws.proofs.Cases.{and-right}
 use Rattle.refusal.specs.Number.{number}
 use Rattle.refusal.specs.declared.Reason.{Reason}
 use Rattle.refusal.specs.declared.Reason.the-variants.{UnwritableCommand, UnknownCpAddress, XfLoadPastEnd, OutputShort}
-use Rattle.refusal.proofs.Positive.{number-some}
+use Rattle.refusal.proofs.Positive.{not-zero}
 use Rattle.command.specs.Command.{kindOf, fieldOf}
 use Rattle.writer.specs.declared.Written.the-variants.{Bytes, Refused}
 use Rattle.writer.specs.Write.{headOf, wordsOf, wordBytes, commandBytes}
@@ -40,8 +40,7 @@ module _ (c words out : List ℕ) where
   -- a refusal leaves the output as it was
   refuses : (r : Reason) → refusalOf c words (length out) ≡ number r → Writes c words out (Refused r) out
   refuses r e =
-      let f : eqb (refusalOf c words (length out)) 0 ≡ false =
-      ne-eqb (refusalOf c words (length out)) 0 (λ z. omega (arith, number-some r)) in
+      let f : eqb (refusalOf c words (length out)) 0 ≡ false = not-zero r e in
       record { answer-is = rw f (ap (λ (n : ℕ). n ∷ []) (sym e)); out-is = rw f }
 
   pub by-unwritable : unwritable c (length words) ≡ true → Writes c words out (Refused UnwritableCommand) out
