@@ -103,10 +103,11 @@ enum duckhammock_state_word {
 /* What a function may return. */
 enum duckhammock_answer {
     DUCKHAMMOCK_DONE = 0,
-    /* The window's rules are broken (start and size are multiples of 32, the size,
-     * end minus start, is 256 to 1,048,576, and both pointers are from start to
-     * below end), the ring's length is not the window's size, or a register or the
-     * open draw is out of range. */
+    /* The window's rules are broken (start and size, which is end minus start, are
+     * multiples of 32; the size is DUCKHAMMOCK_SMALLEST_RING to
+     * DUCKHAMMOCK_LARGEST_RING; both pointers are from start to below end), the
+     * ring's length is not the window's size, or a register or the open draw is out
+     * of range. */
     DUCKHAMMOCK_INVALID_STATE = 1,
     /* The XF words are not 4,184. */
     DUCKHAMMOCK_XF_MEMORY_LENGTH = 2,
@@ -144,7 +145,7 @@ enum duckhammock_answer {
     /* An attribute number above 20, or a vertex not of the layout's length. */
     DUCKHAMMOCK_NOT_OF_LAYOUT = 19,
     /* A count of a recording is not its section's, or its stream is above
-     * 1,048,575 bytes. */
+     * DUCKHAMMOCK_LONGEST_STREAM bytes. */
     DUCKHAMMOCK_WRONG_COUNT = 20,
     /* A number of a recording is too wide for its register. */
     DUCKHAMMOCK_NUMBER_TOO_WIDE = 21,
@@ -437,16 +438,18 @@ uint32_t duckhammock_write_patch(const uint32_t *masks, size_t masks_len,
 /*
  * Recordings. The file's sections stand in this order, each after its count: 256 BP
  * registers; 60 CP registers, in the order of the state's words 11 to 70; 4,184 XF
- * words; the stream's bytes, 0 to 1,048,575. Counts and numbers are 4 bytes, big-endian,
- * and nothing follows. So the numbers stand in the first 18,016 bytes, the head, the
- * stream's count in its last four, and the stream from byte 18,016 on.
+ * words; the stream's bytes, 0 to DUCKHAMMOCK_LONGEST_STREAM. Counts and numbers are 4
+ * bytes, big-endian, and nothing follows. So the numbers stand in the first 18,016
+ * bytes, the head, the stream's count in its last four, and the stream from byte 18,016
+ * on.
  *
  * A BP register has 24 bits, an array base 26 and a stride 8; every other register and
  * an XF word have 32 and are never too wide. A number that is not whole is no number:
  * it gives 22, also where its first bytes are too wide or a wrong count already. A
- * stream's count above 1,048,575 gives 20, whatever follows it. A library of before had
- * 65,535 for the longest stream, and was else the same: what it accepts is read and
- * written alike, and a longer stream it refuses by 20.
+ * stream's count above the longest gives 20, whatever follows it. A library from before
+ * this limit has 65,535 for the longest stream: a recording that it accepts is read alike
+ * here, a stream of at most 65,535 bytes is written as the same bytes, and a recording
+ * with a longer stream it refuses by 20, at byte 18,012.
  */
 
 /*

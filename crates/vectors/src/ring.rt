@@ -26,7 +26,7 @@ pub fn at_1000(read: u32, write: u32) -> Fifo {
     to_end(0x1100, read, write)
 }
 
-// The count, or 1000 and the refusal's number.
+// The count of a ring of 256 bytes, or 1000 and the refusal's number.
 pub fn counted(fifo: Fifo) -> u32 {
     match fifo::count(fifo) {
         Counted::Count(n) => n,
@@ -74,12 +74,28 @@ fn register(fifo: Fifo, offset: u16) -> u32 {
     }
 }
 
+// The count in hexadecimal behind its name, or the refusal's number behind another.
+fn write_count(count: &[u8], refusal: &[u8], fifo: Fifo) {
+    match fifo::count(fifo) {
+        Counted::Count(n) => line::write_hex(count, n),
+        Counted::Refused(reason) => line::write(refusal, refusal::number(reason) as u32),
+    }
+}
+
 // Document 02, L9: the count of a ring of a mebibyte in its two halves, and a ring of 32 bytes more.
 pub fn mebibyte() {
     let held = to_end(0x101000, 0xFE000, 0x10345);
-    line::write_hex(b"count in a ring of 100000: ", counted(held));
+    write_count(
+        b"count in a ring of 100000 (hex): ",
+        b"refusal of it: ",
+        held,
+    );
     line::write_hex(b"030 of it: ", register(held, 0x030));
     line::write_hex(b"032 of it: ", register(held, 0x032));
     let larger = to_end(0x101020, 0xFE000, 0x10345);
-    line::write(b"count in a ring of 100020: ", counted(larger));
+    write_count(
+        b"count in a ring of 100020 (hex): ",
+        b"refusal of a ring of 100020 (hex): ",
+        larger,
+    );
 }

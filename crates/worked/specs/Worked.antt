@@ -4,7 +4,7 @@
 use mathlib.Core.Path.{_≡_, refl, ap, _∙_}
 use mathlib.Core.Bool.{false, cond}
 use mathlib.Core.List.{List, [], _∷_, _++_}
-use Prim.Native.Nat.{ℕ, _+_, _*_, _^_}
+use Prim.Native.Nat.{ℕ, _+_, _*_, _^_, min}
 use lib.ListN.{length, getD, set, replicate}
 use lib.Ieee.{round, toBits, ofBits}
 use Rattle.laws.specs.Values.{upTo}
@@ -29,6 +29,9 @@ use Rattle.fifo.specs.declared.Fifo.{Fifo}
 use Rattle.fifo.specs.Window.{sizeLimit, validBy, countOf as countIn}
 use Rattle.fifo.specs.Answers.{countAnswer}
 use Rattle.registers.specs.Registers.{halfOf, listed, computed, readable, valueOf, readAnswer}
+use Rattle.running.specs.Run.{runLimit}
+use Rattle.recording.specs.Format.{streamCountAt}
+use Rattle.recording.specs.Faults.{streamLimit, numberFault}
 
 -- VCD groups 0 and 1, VAT groups 0, 1 and 2
 abbrev words : ℕ → ℕ → ℕ → ℕ → ℕ → Descriptor
@@ -125,14 +128,17 @@ lacking =
     ∷ []
 
 -- document 02, L9: rings of 1,048,544 and 1,048,576 bytes are allowed, one of 1,048,608 gives 1; a ring of 1,048,576 holds 1,048,575,
--- FFFFF (hex), of which 030 tells FFFF and 032 F
-unfoldable pub largeRings : List Row
-largeRings =
+-- FFFFF (hex), of which 030 tells FFFF and 032 F; a run's limit of 1,048,576 counts as 1,048,575, and a stream of 1,048,576 bytes gives 20
+unfoldable pub raised : List Row
+raised =
     row (getD (countAnswer (filledTo 1048544 0x12345)) 1 0) 0x12345
     ∷ row (getD (countAnswer (filledTo 1048576 1048575)) 1 0) 0xFFFFF
     ∷ row (getD (countAnswer (filledTo 1048608 0x12345)) 0 0) 1
     ∷ row (getD (readAnswer (filledTo 1048576 1048575) false 0x30) 1 0) 0xFFFF
     ∷ row (getD (readAnswer (filledTo 1048576 1048575) false 0x32) 1 0) 0xF
+    ∷ row (min 1048576 runLimit) 1048575
+    ∷ row (numberFault streamLimit streamCountAt 1048575) 0
+    ∷ row (numberFault streamLimit streamCountAt 1048576) 20
     ∷ []
 
 -- the table, in document 01's order, then what document 02 corrects and adds
@@ -152,7 +158,7 @@ rows =
     ∷ row (first 2 16 0 (0xFF ∷ 0xFF ∷ 0 ∷ 0 ∷ [])) 0x3F7FFF00
     ∷ row (first 3 31 0 (0xFF ∷ 0xFF ∷ 0 ∷ 0 ∷ [])) 0xB0000000
     ∷ row (first 0 3 0 (8 ∷ 0 ∷ [])) 0x41000000
-    ∷ corrected ++ (lacking ++ largeRings)
+    ∷ corrected ++ (lacking ++ raised)
 
 -- the left and the right numbers of a table
 unfoldable pub given : List Row → List ℕ
@@ -164,11 +170,11 @@ said [] = []
 said (row a b ∷ l) = b ∷ said l
 
 pub worked : given rows ≡ said rows
-unfolding rows corrected lacking largeRings given said bitsAt modes counts formats shifts modeOf countOf formatOf fractionBits
+unfolding rows corrected lacking raised given said bitsAt modes counts formats shifts modeOf countOf formatOf fractionBits
     fractionOf indicesOf directOf sizeOf offsetOf unknownAt anyUnknown refusalOf lengthOf
     refusalAt attributeList directList componentList paddedList componentAt rawAt bigEndian componentOf upTo round toBits ofBits
     sizeLimit validBy countIn countAnswer whole lookCp xfWords xfAddress lookXf descriptorOf lookVertex byOpcode lookOf
-    masked storedBp loadedBp halfOf listed computed readable valueOf readAnswer
+    masked storedBp loadedBp halfOf listed computed readable valueOf readAnswer runLimit numberFault
 worked = refl
 
 -- ---- the two patches of "Sheets and the writer"
