@@ -50,18 +50,19 @@ module _ (words xf stream out : List ℕ) (count r : ℕ) (out' : List ℕ) (cou
   abbrev Puts : ℕ → Type 0
   Puts n = PutsBytes n (fileBytes (recordingOf (cpOf words) (bpOf words) xf stream)) out count r out' count'
 
-  written-alike : PutsFile streamLimit words xf stream out count r out' count' → PutsFile earlierLimit words xf stream out count r out' count'
+  written-alike : PutsFile streamLimit words xf stream out count r out' count'
+      → PutsFile earlierLimit words xf stream out count r out' count'
   written-alike p = subst Puts (sym same-answer) p
 
-  written-now : PutsFile earlierLimit words xf stream out count r out' count' → PutsFile streamLimit words xf stream out count r out' count'
+  written-now : PutsFile earlierLimit words xf stream out count r out' count'
+      → PutsFile streamLimit words xf stream out count r out' count'
   written-now p = subst Puts same-answer p
 
 head-written-alike : (words xf : List ℕ) (n : ℕ) (out : List ℕ) (count r : ℕ) (out' : List ℕ) (count' : ℕ) → n ≤ earlierLimit
     → PutsHead streamLimit words xf n out count r out' count' → PutsHead earlierLimit words xf n out count r out' count'
 head-written-alike words xf n out count r out' count' s p =
-    subst (λ (k : ℕ). PutsBytes k (headBytes (cpOf words) (bpOf words) xf n) out count r out' count')
-    (sym (limit-promises .written-alike earlierLimit streamLimit (cpOf words) (bpOf words) (length xf) n (omega arith) s .head (length out)))
-    p
+    let alike = limit-promises .written-alike earlierLimit streamLimit (cpOf words) (bpOf words) (length xf) n (omega arith) s in
+    subst (λ (k : ℕ). PutsBytes k (headBytes (cpOf words) (bpOf words) xf n) out count r out' count') (sym (alike .head (length out))) p
 
 earlier-read : (words xf stream out : List ℕ) (count r : ℕ) (out' : List ℕ) (count' : ℕ) (other xf₀ told : List ℕ) (s : ℕ)
     (words' xf' told' : List ℕ) → length words ≡ 327 → WordsFit words → WordsFit xf → length xf₀ ≡ xfCount
@@ -69,7 +70,8 @@ earlier-read : (words xf stream out : List ℕ) (count r : ℕ) (out' : List ℕ
     → LoadsFile streamLimit other (take count' out') xf₀ told s words' xf' told' → ReadAgain words xf stream other out' s words' xf' told'
 unfolding recordRefusal
 earlier-read words xf stream out count r out' count' other xf₀ told s words' xf' told' long fit fit-xf n p z h =
-    let content = or-zero (contentRefusal earlierLimit (cpOf words) (bpOf words) (length xf) (length stream)) _ (sym (p .answer-is) ∙ z) .0 in
+    let content : contentRefusal earlierLimit (cpOf words) (bpOf words) (length xf) (length stream) ≡ 0 =
+    or-zero _ _ (sym (p .answer-is) ∙ z) .0 in
     let short = passes earlierLimit (cpOf words) (bpOf words) (length xf) (length stream) content .short in
     written-read words xf stream out count r out' count' other xf₀ told s words' xf' told' long fit fit-xf n
     (written-now words xf stream out count r out' count' short p) z h
@@ -113,7 +115,8 @@ long-stream-in-parts : (words xf stream out : List ℕ) (count r : ℕ) (out' : 
     → LoadsFile earlierLimit other (take count' out' ++ stream) xf₀ told s words' xf' told' → LeftAlone s other xf₀ told words' xf' told'
 unfolding headRecordRefusal
 long-stream-in-parts words xf stream out count r out' count' other xf₀ told s words' xf' told' long fit fit-xf n p z over h =
-    let content = or-zero (contentRefusal streamLimit (cpOf words) (bpOf words) (length xf) (length stream)) _ (sym (p .answer-is) ∙ z) .0 in
+    let content : contentRefusal streamLimit (cpOf words) (bpOf words) (length xf) (length stream) ≡ 0 =
+    or-zero _ _ (sym (p .answer-is) ∙ z) .0 in
     let head : List ℕ = headBytes (cpOf words) (bpOf words) xf (length stream) in
     let o : out' ≡ placed head out = rw z at (p .out-is) in
     let c : count' ≡ length head = rw z at (p .count-is) in

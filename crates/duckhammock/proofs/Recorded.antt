@@ -126,7 +126,8 @@ by-head (suc r) a b rest e = refl
 
 in-two : (words file xf : List ℕ) (told r : ℕ) (words' xf' : List ℕ) (told' : ℕ) (stream : List ℕ) (s : ℕ)
     (words'' xf'' stream' : List ℕ) → LoadsHead streamLimit words (take streamAt file) xf told r words' xf' told'
-    → LoadsFile streamLimit words file xf stream s words'' xf'' stream' → InParts (length file - streamAt) r told' s words' xf' words'' xf'' stream'
+    → LoadsFile streamLimit words file xf stream s words'' xf'' stream'
+    → InParts (length file - streamAt) r told' s words' xf' words'' xf'' stream'
 unfolding readRefusal contentOf
 in-two words file xf told r words' xf' told' stream s words'' xf'' stream' h k =
     let front : List ℕ = take streamAt file in
@@ -246,8 +247,8 @@ module _ (words xf stream : List ℕ) (long : length words ≡ 327) (fit : Words
       }
 
 -- what was written is the file of a content that is not refused
-module _ (words xf stream out : List ℕ) (count r : ℕ) (out' : List ℕ) (count' : ℕ) (p : PutsFile streamLimit words xf stream out count r out' count')
-    (z : r ≡ 0) where
+module _ (words xf stream out : List ℕ) (count r : ℕ) (out' : List ℕ) (count' : ℕ)
+    (p : PutsFile streamLimit words xf stream out count r out' count') (z : r ≡ 0) where
   pub taken-content : contentRefusal streamLimit (cpOf words) (bpOf words) (length xf) (length stream) ≡ 0
   unfolding recordRefusal
   taken-content = or-zero _ _ (sym (p .answer-is) ∙ z) .0
@@ -261,15 +262,17 @@ module _ (words xf stream out : List ℕ) (count r : ℕ) (out' : List ℕ) (cou
 
 pub written-read : (words xf stream out : List ℕ) (count r : ℕ) (out' : List ℕ) (count' : ℕ) (other xf₀ told : List ℕ) (s : ℕ)
     (words' xf' told' : List ℕ) → length words ≡ 327 → WordsFit words → WordsFit xf → length xf₀ ≡ xfCount
-    → PutsFile streamLimit words xf stream out count r out' count' → r ≡ 0 → LoadsFile streamLimit other (take count' out') xf₀ told s words' xf' told'
+    → PutsFile streamLimit words xf stream out count r out' count' → r ≡ 0
+    → LoadsFile streamLimit other (take count' out') xf₀ told s words' xf' told'
     → ReadAgain words xf stream other out' s words' xf' told'
 written-read words xf stream out count r out' count' other xf₀ told s words' xf' told' long fit fit-xf n p z h =
     let file : List ℕ = fileBytes (recordingOf (cpOf words) (bpOf words) xf stream) in
     let o : out' ≡ placed file out = rw z at (p .out-is) in
+    let content = taken-content words xf stream out count r out' count' p z in
+    let whole : take count' out' ≡ file = written-whole words xf stream out count r out' count' p z in
     subst (λ (l : List ℕ). ReadAgain words xf stream other l s words' xf' told') (sym o)
-    (read-again words xf stream long fit fit-xf (taken-content words xf stream out count r out' count' p z) other out xf₀ told s
-    words' xf' told' n
-    (subst (λ (l : List ℕ). LoadsFile streamLimit other l xf₀ told s words' xf' told') (written-whole words xf stream out count r out' count' p z) h))
+    (read-again words xf stream long fit fit-xf content other out xf₀ told s words' xf' told' n
+    (subst (λ (l : List ℕ). LoadsFile streamLimit other l xf₀ told s words' xf' told') whole h))
 
 pub recorded-promises : RecordedPromises
 recorded-promises = record {

@@ -66,7 +66,8 @@ pub record RecordedPromises : Type 0 where
   -- reading the whole is reading the head, its first 18,016 bytes, and checking the rest
   pub in-parts : (words file xf : List ℕ) (told r : ℕ) (words' xf' : List ℕ) (told' : ℕ) (stream : List ℕ) (s : ℕ)
       (words'' xf'' stream' : List ℕ) → LoadsHead streamLimit words (take streamAt file) xf told r words' xf' told'
-      → LoadsFile streamLimit words file xf stream s words'' xf'' stream' → InParts (length file - streamAt) r told' s words' xf' words'' xf'' stream'
+      → LoadsFile streamLimit words file xf stream s words'' xf'' stream'
+      → InParts (length file - streamAt) r told' s words' xf' words'' xf'' stream'
   -- "An accepted file is exactly what the writer gives for its content": what was read, written to an output that is long enough
   pub read-written : (words file xf told : List ℕ) (r : ℕ) (words' xf' told' out : List ℕ) (count s : ℕ) (out' : List ℕ) (count' : ℕ)
       → Octets file → LoadsFile streamLimit words file xf told r words' xf' told' → r ≡ 0 → length file ≤ length out
@@ -75,7 +76,8 @@ pub record RecordedPromises : Type 0 where
   -- "one file, written and read back": a file that was written is read into any words, and gives what was written
   pub written-read : (words xf stream out : List ℕ) (count r : ℕ) (out' : List ℕ) (count' : ℕ) (other xf₀ told : List ℕ) (s : ℕ)
       (words' xf' told' : List ℕ) → length words ≡ 327 → WordsFit words → WordsFit xf → length xf₀ ≡ xfCount
-      → PutsFile streamLimit words xf stream out count r out' count' → r ≡ 0 → LoadsFile streamLimit other (take count' out') xf₀ told s words' xf' told'
+      → PutsFile streamLimit words xf stream out count r out' count' → r ≡ 0
+      → LoadsFile streamLimit other (take count' out') xf₀ told s words' xf' told'
       → ReadAgain words xf stream other out' s words' xf' told'
 
 -- ---- L9: beside the calls of before, which had the same contracts with `earlierLimit` for the longest stream

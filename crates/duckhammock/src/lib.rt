@@ -261,8 +261,8 @@ pub extern "C" fn duckhammock_write_recording(
     output: &mut [u8],
     written: &mut u32,
 ) -> u32
-    ensures { λ r. ⌜ PutsFile streamLimit (now (state .entry)) (now (xf .entry)) (now (stream .entry)) (now (output .entry)) (now (written .entry))
-        r (now (output .exit)) (now (written .exit)) ⌝ }
+    ensures { λ r. ⌜ PutsFile streamLimit (now (state .entry)) (now (xf .entry)) (now (stream .entry)) (now (output .entry))
+        (now (written .entry)) r (now (output .exit)) (now (written .exit)) ⌝ }
 {
     filing::write(state, xf, stream, output, written)
 }

@@ -86,8 +86,8 @@ pub fn write(
     output: &mut [u8],
     written: &mut u32,
 ) -> u32
-    ensures { λ r. ⌜ PutsFile streamLimit (now (state .entry)) (now (xf .entry)) (now (stream .entry)) (now (output .entry)) (now (written .entry))
-        r (now (output .exit)) (now (written .exit)) ⌝ }
+    ensures { λ r. ⌜ PutsFile streamLimit (now (state .entry)) (now (xf .entry)) (now (stream .entry)) (now (output .entry))
+        (now (written .entry)) r (now (output .exit)) (now (written .exit)) ⌝ }
 {
     let cp = words::cp(state);
     let bp = words::bp(state);

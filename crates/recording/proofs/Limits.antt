@@ -16,7 +16,7 @@ use Rattle.recording.specs.Answers.{headRefusal, readRefusal, contentRef
 use Rattle.recording.specs.Promises.{Recordable}
 use Rattle.recording.specs.Limits.{ReadAlike, WrittenAlike, LongStream, LimitPromises}
 use Rattle.recording.proofs.Classes.{of-stream-count}
-use Rattle.recording.proofs.Sound.{Clean, clean, told-within}
+use Rattle.recording.proofs.Sound.{clean, told-within}
 use Rattle.recording.proofs.Back.{accepted-back, last-count}
 
 -- a fault ends the search
