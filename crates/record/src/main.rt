@@ -5,83 +5,81 @@
 //   registers   the same with the registers and XF words of the recording on descriptor 3
 //   stream      the stream of the recording on standard input
 //
-// Nothing is written before all that is read was found to be in order. How it ended is told by a line on standard error.
+// A stream may be longer than any buffer here, and a recording tells its length before it. So standard input is gone over twice, to count
+// and to copy, and must be a file. Nothing is written before all that is read was found to be in order. How it ended is told by a line on
+// standard error.
+mod load;
+mod pass;
 mod verdict;
-mod whole;
 
 use libc::STDIN_FILENO;
-use libc::STDOUT_FILENO;
-use whole::Loaded;
+use load::Loaded;
+use pass::Pass;
+use verdict::Verdict;
 
 // The descriptor of the recording whose registers are taken.
 const OTHER: i32 = 3;
 
-// Writes a recording: what stands before the stream, and the stream.
-fn write_recording(state: &[u32; 327], xf: &[u32; 4184], stream: &[u8]) {
-    let mut head = [0u8; 18016];
+// The bytes of the longest stream.
+const LONGEST: usize = 1048575;
+
+// Writes a recording: what stands before the stream, and the stream that was counted.
+fn write_recording(state: &[u32; 327], xf: &[u32; 4184], stream: Pass) -> Verdict {
+    let mut head = [0u8; load::HEAD];
     let mut written: u32 = 0;
     let number = duckhammock::duckhammock_write_recording_head(
         state,
         xf,
-        stream.len(),
+        stream.count,
         &mut head,
         &mut written,
     );
     if number != 0 {
-        verdict::tell_refusal(number);
-        return;
+        return Verdict::Refused(number);
     }
-    let is_begun = whole::write(&head);
-    verdict::tell_written(is_begun && io::write_all(STDOUT_FILENO, stream));
+    pass::copy(&head, stream)
 }
 
-// Records the raw stream on standard input with these registers. One that fills the buffer is too long, and a recording is no raw stream.
-fn record(state: &[u32; 327], xf: &[u32; 4184], room: &mut [u8; 65536]) {
-    let got = whole::fill(STDIN_FILENO, room);
-    if got.is_failed {
-        verdict::tell_unreadable();
-        return;
+// Records the raw stream on standard input with these registers.
+fn record(state: &[u32; 327], xf: &[u32; 4184]) -> Verdict {
+    if load::is_recording() {
+        return Verdict::IsRecording;
     }
-    if whole::is_recording(room, got.count) {
-        verdict::tell_recording();
-        return;
+    let stream = pass::count(STDIN_FILENO, LONGEST);
+    if stream.is_failed {
+        return Verdict::Unreadable;
     }
-    write_recording(state, xf, whole::front(room, got.count));
+    write_recording(state, xf, stream)
 }
 
 // Records it with fresh registers.
-fn record_fresh() {
+fn record_fresh() -> Verdict {
     let mut state = [0u32; 327];
     let xf = [0u32; 4184];
-    let mut room = [0u8; 65536];
     duckhammock::duckhammock_fresh(&mut state);
-    record(&state, &xf, &mut room);
+    record(&state, &xf)
 }
 
-// Records it with the registers and XF words of another recording, which is read whole.
-fn record_by_other() {
+// Records it with the registers and XF words of another recording, which is read to its end.
+fn record_by_other() -> Verdict {
     let mut state = [0u32; 327];
     let mut xf = [0u32; 4184];
-    let mut room = [0u8; 65536];
     duckhammock::duckhammock_fresh(&mut state);
-    let loaded = whole::load(OTHER, &mut state, &mut xf, &mut room);
+    let loaded = load::load(OTHER, &mut state, &mut xf);
     match loaded {
-        Loaded::Stream(_) => record(&state, &xf, &mut room),
-        Loaded::Bad { number, place } => verdict::tell_fault(number, place),
-        Loaded::Unreadable => verdict::tell_unreadable(),
+        Loaded::Stream(_) => record(&state, &xf),
+        Loaded::Not(verdict) => verdict,
     }
 }
 
 // Writes the stream of the recording on standard input.
-fn write_stream() {
+fn write_stream() -> Verdict {
     let mut state = [0u32; 327];
     let mut xf = [0u32; 4184];
-    let mut room = [0u8; 65536];
-    let loaded = whole::load(STDIN_FILENO, &mut state, &mut xf, &mut room);
+    let loaded = load::load(STDIN_FILENO, &mut state, &mut xf);
     match loaded {
-        Loaded::Stream(count) => verdict::tell_written(whole::write_front(&room, count)),
-        Loaded::Bad { number, place } => verdict::tell_fault(number, place),
-        Loaded::Unreadable => verdict::tell_unreadable(),
+        Loaded::Stream(stream) => pass::copy(&[], stream),
+        Loaded::Not(verdict) => verdict,
     }
 }
 
@@ -92,12 +90,17 @@ fn letter() -> u8 {
     word[0]
 }
 
-// The letter says what is done.
-fn main() {
+// Does what the letter says.
+fn act() -> Verdict {
     match letter() {
         0 => record_fresh(),
         b'r' => record_by_other(),
         b's' => write_stream(),
-        _ => verdict::tell_unknown(),
+        _ => Verdict::Unknown,
     }
+}
+
+// Does it, and tells how it ended.
+fn main() {
+    verdict::tell(act());
 }

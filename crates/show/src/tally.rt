@@ -1,4 +1,5 @@
 // What was counted so far.
+use crate::text;
 use crate::units;
 use std::num::wrapping_add_u64;
 
@@ -101,16 +102,13 @@ pub fn see(tally: Tally, bytes: usize) -> Tally {
     next
 }
 
-// How many bytes the stream still has, at most 65,535, as `io::count` takes them.
+// How many bytes the stream still has, as `io::count` takes them.
 pub fn left(tally: Tally) -> isize {
     if tally.told < tally.seen {
         return 0;
     }
     let left = tally.told - tally.seen;
-    if left < 65535 {
-        return left as isize;
-    }
-    65535
+    text::signed(left as usize)
 }
 
 // How many bytes stand behind a recording's head, as far as they were read.

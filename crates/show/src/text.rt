@@ -75,7 +75,7 @@ pub fn begin(out: &mut [u8; 120], offset: u64) -> usize {
     put(out, at, b"  ")
 }
 
-// A number of bytes as `io::count` takes it, at most 65,535.
+// A number of bytes as `io::count` takes it; 65,535 where it is higher, which is more than any piece or line has.
 pub fn signed(n: usize) -> isize {
     if n < 65535 {
         return n as isize;
