@@ -3,10 +3,8 @@ use crate::pass;
 use crate::pass::Pass;
 use crate::verdict::Verdict;
 use libc::STDIN_FILENO;
+use recording::HEAD_LENGTH;
 use std::num::wrapping_add_u32;
-
-// How many bytes stand in a recording before its stream.
-pub const HEAD: usize = 18016;
 
 // The pass over the stream of a recording that is in order; or how the program ends where it is not.
 pub enum Loaded {
@@ -33,9 +31,9 @@ fn refuse(number: u32, head: &[u8]) -> Loaded {
 // Where the bytes behind a head end, or ought to: what comes first.
 fn rest_end(told: u32, rest: usize) -> u32 {
     if rest < told as usize {
-        return wrapping_add_u32(HEAD as u32, rest as u32);
+        return wrapping_add_u32(HEAD_LENGTH as u32, rest as u32);
     }
-    wrapping_add_u32(HEAD as u32, told)
+    wrapping_add_u32(HEAD_LENGTH as u32, told)
 }
 
 // Counts the bytes behind a head, which tells how many there are.
@@ -65,12 +63,12 @@ fn load_head(descriptor: i32, state: &mut [u32; 327], xf: &mut [u32; 4184], head
 // Whether a read fails: the next one, where a head is short.
 fn is_failing(descriptor: i32, count: usize) -> bool {
     let mut more = [0u8; 1];
-    count < HEAD && libc::read(descriptor, &mut more) < 0
+    count < HEAD_LENGTH && libc::read(descriptor, &mut more) < 0
 }
 
 // Reads a recording from a descriptor to its end: its registers and XF words, and how long its stream is.
 pub fn load(descriptor: i32, state: &mut [u32; 327], xf: &mut [u32; 4184]) -> Loaded {
-    let mut bytes = [0u8; HEAD];
+    let mut bytes = [0u8; HEAD_LENGTH];
     let count = io::read_full(descriptor, &mut bytes);
     if is_failing(descriptor, count) {
         return Loaded::Not(Verdict::Unreadable);

@@ -15,17 +15,15 @@ mod verdict;
 use libc::STDIN_FILENO;
 use load::Loaded;
 use pass::Pass;
+use recording::HEAD_LENGTH;
 use verdict::Verdict;
 
 // The descriptor of the recording whose registers are taken.
 const OTHER: i32 = 3;
 
-// The bytes of the longest stream.
-const LONGEST: usize = 1048575;
-
 // Writes a recording: what stands before the stream, and the stream that was counted.
 fn write_recording(state: &[u32; 327], xf: &[u32; 4184], stream: Pass) -> Verdict {
-    let mut head = [0u8; load::HEAD];
+    let mut head = [0u8; HEAD_LENGTH];
     let mut written: u32 = 0;
     let number = duckhammock::duckhammock_write_recording_head(
         state,
@@ -45,7 +43,7 @@ fn record(state: &[u32; 327], xf: &[u32; 4184]) -> Verdict {
     if load::is_recording() {
         return Verdict::IsRecording;
     }
-    let stream = pass::count(STDIN_FILENO, LONGEST);
+    let stream = pass::count(STDIN_FILENO, recording::STREAM_LIMIT as usize);
     if stream.is_failed {
         return Verdict::Unreadable;
     }
