@@ -27,8 +27,9 @@ const NUMBER_BYTES: usize = 4;
 
 /// The file up to the stream's first byte.
 pub const RECORDING_HEAD_BYTES: usize = HEAD_NUMBERS * NUMBER_BYTES;
-/// "stream bytes (0 to 65,535)"
-pub const LONGEST_STREAM: usize = 65_535;
+/// "stream bytes (0 to 65,535)"; L9 raises "the recording's stream to 1,048,575". A file
+/// with a shorter stream has the same bytes as before it.
+pub const LONGEST_STREAM: usize = 1_048_575;
 
 /// "The reader … tells where the stream stands."
 #[derive(Clone, Copy, Debug, PartialEq, Eq)]

@@ -1,5 +1,5 @@
-//! Document 02's L1: "one file, written and read back: sections in a fixed order,
-//! each after its count". The places of the numbers in the file are worked out by
+//! Document 02's L1, with the longer stream of its L9: "one file, written and read back:
+//! sections in a fixed order, each after its count". The places of the numbers in the file are worked out by
 //! hand: each section has 4 bytes for its count and 4 for each number.
 #![forbid(unsafe_code)]
 
@@ -18,7 +18,9 @@ const XF_COUNT: usize = 1272;
 const XF: usize = 1276;
 const STREAM_COUNT: usize = 18_012;
 const HEAD: usize = 18_016;
-const LONGEST: usize = 65_535;
+const LONGEST: usize = 1_048_575;
+/// The longest stream until L9.
+const LONGEST_BEFORE: usize = 65_535;
 
 /// CP numbers by their place in the section.
 const VAT: usize = 4;
@@ -254,7 +256,7 @@ fn cp_registers_stand_by_format_then_group() {
 #[test]
 fn a_written_file_is_read_back() {
     let (state, xf) = (numbered_state(), numbered_xf());
-    for length in [0, 1, 3, 4, 1000, LONGEST] {
+    for length in [0, 1, 3, 4, 1000, LONGEST_BEFORE, 65_536, LONGEST] {
         let (answer, file, _) = write(&state, &xf, &vec![0x48; length], HEAD + length);
         assert_eq!(answer, DONE);
         let reader = accepted(&file);
@@ -293,22 +295,25 @@ fn a_wrong_count() {
             head_refused(&with(&file, place, wrong), 20, place);
         }
     }
-    for wrong in [65_536, 65_545, 0x100_0009, 0x8000_0009, u32::MAX] {
+    for wrong in [1_048_576, 1_048_585, 0x100_0009, 0x8000_0009, u32::MAX] {
         head_refused(&with(&file, STREAM_COUNT, wrong), 20, STREAM_COUNT);
     }
 }
 
-/// The stream's count is a wrong one "above 65,535", whatever is behind it.
+/// The stream's count is a wrong one above 1,048,575, whatever is behind it.
 #[test]
 fn a_long_stream_is_a_wrong_count() {
-    for length in [0, 1, 65_535, 65_536, 65_537, 70_000] {
+    for length in [0, 1, 65_535, 65_536, LONGEST, LONGEST + 1, LONGEST + 2] {
         let mut file = empty_file(length);
-        put(&mut file, STREAM_COUNT, 65_536);
+        put(&mut file, STREAM_COUNT, LONGEST as u32 + 1);
         head_refused(&file, 20, STREAM_COUNT);
     }
-    accepted(&empty_file(LONGEST));
-    rest_refused(&empty_file(LONGEST)[..HEAD + LONGEST - 1], 22);
-    rest_refused(&[empty_file(LONGEST), vec![0]].concat(), 23);
+    for length in [LONGEST_BEFORE, LONGEST_BEFORE + 1, LONGEST] {
+        let file = empty_file(length);
+        accepted(&file);
+        rest_refused(&file[..file.len() - 1], 22);
+        rest_refused(&[file, vec![0]].concat(), 23);
+    }
 }
 
 /// 21, of the first and the last register of each width.
@@ -399,7 +404,7 @@ fn a_cut_number_is_no_number() {
 /// 22 and 23 of what is behind the head.
 #[test]
 fn a_file_too_short_or_too_long() {
-    for count in [0, 1, 4, 1000, LONGEST] {
+    for count in [0, 1, 4, 1000, LONGEST_BEFORE, LONGEST] {
         let file = empty_file(count);
         accepted(&file);
         for more in [1, 3, 4, 5000] {
@@ -466,7 +471,7 @@ fn the_head_alone() {
     let mut random = Random(0x5EED_0003);
     let file = any_file(&mut random, 700);
     let whole = accepted(&file);
-    for behind in [0, 1, 699, 700, 701, 70_000] {
+    for behind in [0, 1, 699, 700, 701, 70_000, LONGEST + 1] {
         let head = [&file[..HEAD], &vec![0xA5; behind]].concat();
         let mut reader = Reader::new();
         assert_eq!(reader.read_head(&head), DONE);
@@ -478,10 +483,10 @@ fn the_head_alone() {
 
 #[test]
 fn the_rest_is_counted() {
-    for length in [0, 1, 100, 65_535, 65_536, u32::MAX] {
+    for length in [0, 1, 100, 65_535, 65_536, 1_048_575, 1_048_576, u32::MAX] {
         let bytes = length as usize;
         assert_eq!(words::check_recording_rest(length, bytes), DONE);
-        for more in [bytes + 1, bytes + 0x1_0000, usize::MAX] {
+        for more in [bytes + 1, bytes + 0x1_0000, bytes + 0x10_0000, usize::MAX] {
             assert_eq!(words::check_recording_rest(length, more), 23);
         }
         if length != 0 {
@@ -571,20 +576,20 @@ fn words_that_the_writer_does_not_test() {
 fn the_writer_refuses_in_its_order() {
     let mut state = numbered_state();
     state[STRIDE_WORDS + 3] = 256;
-    not_written(&state, &[0; 4183], 65_536, 0, 1);
+    not_written(&state, &[0; 4183], LONGEST + 1, 0, 1);
     state[STRIDE_WORDS + 3] = 255;
     for xf in [0, 4183, 4185] {
-        not_written(&state, &vec![0; xf], 65_536, 0, 2);
+        not_written(&state, &vec![0; xf], LONGEST + 1, 0, 2);
     }
     let xf = numbered_xf();
-    for stream in [65_536, 70_000] {
+    for stream in [LONGEST + 1, LONGEST + 5000] {
         not_written(&state, &xf, stream, 0, 20);
         not_written(&state, &xf, stream, HEAD + stream, 20);
     }
     for room in [0, 1, HEAD - 1] {
         not_written(&state, &xf, 0, room, 16);
     }
-    for stream in [1, 100, LONGEST] {
+    for stream in [1, 100, LONGEST_BEFORE, 65_536, LONGEST] {
         for room in [HEAD, HEAD + stream - 1] {
             not_written(&state, &xf, stream, room, 16);
         }
@@ -596,11 +601,11 @@ fn the_writer_refuses_in_its_order() {
 fn the_head_of_a_stream_that_is_not_there() {
     let (state, xf) = (numbered_state(), numbered_xf());
     let nothing = |refusal, room| (refusal, vec![0xEE; room], BEFORE);
-    for length in [65_536, 0x1_0000_0000, 0x1_0000_0005, usize::MAX] {
+    for length in [1_048_576, 0x1_0000_0000, 0x1_0000_0005, usize::MAX] {
         assert_eq!(write_head(&state, &xf, length, HEAD), nothing(20, HEAD));
         assert_eq!(write_head(&state, &xf, length, 3), nothing(20, 3));
     }
-    for length in [0, 1, LONGEST] {
+    for length in [0, 1, LONGEST_BEFORE, 65_536, LONGEST] {
         assert_eq!(
             write_head(&state, &xf, length, HEAD - 1),
             nothing(16, HEAD - 1)
