@@ -3,7 +3,7 @@
 
 use crate::world::{word, World};
 use model::words::{DONE, WAITING};
-use model::{layout, CpRegisters};
+use model::{layout, CpRegisters, MOST_UNITS};
 
 /// Something that a run went through.
 #[derive(Clone, Copy, Debug, PartialEq, Eq, PartialOrd, Ord)]
@@ -61,8 +61,12 @@ const XF_UP_TO_END: &str = "an XF load that ends at 4,184";
 const XF_PAST_END: &str = "an XF load that ends at 4,185, refused after other units";
 const REFUSED_IN_ROW: &str = "a CP load refused right after another";
 const LOAD_AFTER_MASKED: &str = "a mask, a BP load under it, and one after it";
+const LARGE_RING: &str = "a ring above 65,536 bytes";
+const LARGE_OVER_END: &str = "units over the end of a ring above 65,536 bytes";
+const MANY_UNITS: &str = "more than 65,535 units";
+const ALL_UNITS: &str = "as many units as a run can do, and no more in the ring";
 
-pub const CASES: [&str; 17] = [
+pub const CASES: [&str; 21] = [
     HEAD_OVER_END,
     VERTEX_OVER_END,
     VERTEX_UP_TO_END,
@@ -80,7 +84,15 @@ pub const CASES: [&str; 17] = [
     XF_PAST_END,
     REFUSED_IN_ROW,
     LOAD_AFTER_MASKED,
+    LARGE_RING,
+    LARGE_OVER_END,
+    MANY_UNITS,
+    ALL_UNITS,
 ];
+
+/// The largest ring and the most units of a run until document 02's L9.
+const LARGEST_BEFORE: usize = 65_536;
+const MOST_BEFORE: u32 = 65_535;
 
 impl Mark {
     /// All that runs are to go through.
@@ -216,8 +228,18 @@ impl<'a> Walk<'a> {
         self.marks.push(Mark::Case(case));
     }
 
+    /// The place so many bytes on. Most are before the ring's end, and need no division.
+    fn place(&self, after: usize) -> usize {
+        let place = self.at + after;
+        if place < self.ring.len() {
+            place
+        } else {
+            place % self.ring.len()
+        }
+    }
+
     fn byte(&self, k: usize) -> u8 {
-        self.ring[(self.at + k) % self.ring.len()]
+        self.ring[self.place(k)]
     }
 
     fn half(&self, k: usize) -> u16 {
@@ -230,7 +252,11 @@ impl<'a> Walk<'a> {
 
     /// Passes units of so many bytes together.
     fn pass(&mut self, units: u32, bytes: usize) {
-        self.at = (self.at + bytes) % self.ring.len();
+        let size = self.ring.len();
+        if size > LARGEST_BEFORE && Lie::of(self.at, bytes, size) == Lie::OverTheEnd {
+            self.case(LARGE_OVER_END);
+        }
+        self.at = self.place(bytes);
         self.units = self.units.saturating_sub(units);
     }
 
@@ -387,9 +413,18 @@ impl<'a> Walk<'a> {
         self.draw = (taken != left).then_some((format, left - taken));
     }
 
-    /// Why the run went no further.
+    /// How much the run did, and why it went no further.
     fn end(&mut self, run: &Run) {
         let pending = run.after.count() as usize;
+        if self.ring.len() > LARGEST_BEFORE {
+            self.case(LARGE_RING);
+        }
+        if run.units > MOST_BEFORE {
+            self.case(MANY_UNITS);
+        }
+        if run.units == MOST_UNITS && run.answer == DONE && pending == 0 {
+            self.case(ALL_UNITS);
+        }
         match (run.answer, self.draw) {
             (DONE | WAITING, Some((format, _))) => {
                 let length = self.vertex_length(format).unwrap_or(usize::MAX);

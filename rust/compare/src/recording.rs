@@ -1,5 +1,6 @@
 //! The places of a recording: what stands where in the file, and where a fault is.
 
+use crate::call::{Call, Kind};
 use model::{RECORDING_HEAD_BYTES, XF_WORDS};
 
 /// A count or a number.
@@ -43,7 +44,7 @@ pub const SECTIONS: [Section; 10] = [
     section("an array stride", 1208, 16, Holds::AtMost(0xFF)),
     section("the XF count", 1272, 1, Holds::Count(4184)),
     section("an XF word", 1276, XF_WORDS, Holds::AtMost(u32::MAX)),
-    section("the stream's count", 18_012, 1, Holds::AtMost(65_535)),
+    section("the stream's count", 18_012, 1, Holds::AtMost(1_048_575)),
 ];
 
 impl Section {
@@ -69,6 +70,31 @@ pub enum Found {
     Cut(usize, usize),
     /// The file ends within the stream.
     StreamCut,
+    /// A stream longer than any before document 02's L9, by the call that accepted it.
+    Long(Kind),
+}
+
+/// The longest stream until document 02's L9.
+pub const LONGEST_BEFORE: usize = 65_535;
+
+/// The calls that tell or are handed a stream's length.
+const MEET_STREAMS: [Kind; 4] = [
+    Kind::ReadRecording,
+    Kind::ReadRecordingHead,
+    Kind::WriteRecording,
+    Kind::WriteRecordingHead,
+];
+
+/// Whether an accepted call has a stream longer than any before document 02's L9.
+pub fn has_long_stream(call: &Call) -> bool {
+    let length = match call {
+        Call::ReadRecording { stream, .. } => stream[1] as usize,
+        Call::ReadRecordingHead { length, .. } => *length as usize,
+        Call::WriteRecording { stream, .. } => stream.len(),
+        Call::WriteRecordingHead { length, .. } => *length,
+        _ => 0,
+    };
+    length > LONGEST_BEFORE
 }
 
 /// What is found where a head of so many bytes has its first fault at a byte.
@@ -89,6 +115,7 @@ impl Found {
     /// All that can be.
     pub fn all() -> Vec<Found> {
         let mut all = vec![Found::Nothing, Found::StreamCut];
+        all.extend(MEET_STREAMS.map(Found::Long));
         for (at, section) in SECTIONS.iter().enumerate() {
             all.extend((0..NUMBER_BYTES).map(|bytes| Found::Cut(at, bytes)));
             if section.can_be_wrong() {
@@ -109,6 +136,7 @@ impl Found {
                 )
             }
             Found::StreamCut => "a recording cut in its stream".into(),
+            Found::Long(kind) => format!("{} of a stream above 65,535", kind.name()),
         }
     }
 }

@@ -5,7 +5,7 @@ use crate::formats::{good_vat, good_vcd};
 use crate::random::Random;
 use crate::world::{word, Lent, USUAL};
 use model::words::{UnitWords, DONE, WAITING};
-use model::CpRegisters;
+use model::{CpRegisters, LARGEST_RING, MOST_UNITS};
 
 /// Where the ring stands and how many bytes it has.
 pub struct Ring {
@@ -24,9 +24,17 @@ pub fn open_ring(duo: &mut Duo, random: &mut Random) -> Ring {
         10 => 1024,
         11 => 4096,
         12 if random.once_in(12) => 65_536,
+        13 if random.once_in(150) => large_size(random),
         _ => 32 * random.between(8, 64),
     };
     open_ring_of(duo, random, size)
+}
+
+/// A ring of more than 65,536 bytes, the most until document 02's L9. Whole rings are
+/// compared after every call, so these are seldom.
+pub fn large_size(random: &mut Random) -> u32 {
+    let any = 32 * random.between(2049, LARGEST_RING / 32);
+    random.pick(&[LARGEST_RING, LARGEST_RING, LARGEST_RING - 32, 65_568, any])
 }
 
 pub fn open_ring_of(duo: &mut Duo, random: &mut Random, size: u32) -> Ring {
@@ -138,6 +146,8 @@ pub enum Pace {
     ByteByByte,
     /// As much as there is room for, then a run.
     Bulk,
+    /// At most 64 KiB, then runs of any limits.
+    Pieces,
     /// Pieces, and runs that end by their limit, at waiting or at a refusal.
     Runs,
     Mixed,
@@ -151,32 +161,44 @@ pub fn play(duo: &mut Duo, random: &mut Random, bytes: &[u8], pace: Pace) {
         let piece = match pace {
             Pace::ByteByByte => most.min(1),
             Pace::Bulk => most,
+            Pace::Pieces => most.min(random.pick(&[4096, 65_535, 65_536])),
             Pace::Runs => most.min(random.between(1, 600)),
             Pace::Mixed => random.below(most + 1).min(random.between(1, 300)),
         };
         duo.feed(&bytes[at..at + piece as usize]);
         at += piece as usize;
-        match pace {
-            Pace::ByteByByte => {
-                take_one(duo, random);
-            }
-            Pace::Bulk => {
-                duo.run(65_535);
-            }
-            Pace::Runs => {
-                for _ in 0..random.between(1, 3) {
-                    sometimes_look(duo, random);
-                    duo.run(random.below(24));
-                }
-            }
-            Pace::Mixed => take_some(duo, random, 8),
-        }
+        take_at(duo, random, pace);
         // A full ring whose next unit is refused takes nothing more.
         if most == 0 && !took_some(duo) {
             return;
         }
     }
     end_of_stream(duo, random);
+}
+
+/// Takes what a pace has after a feed.
+fn take_at(duo: &mut Duo, random: &mut Random, pace: Pace) {
+    match pace {
+        Pace::ByteByByte => {
+            take_one(duo, random);
+        }
+        Pace::Bulk => {
+            duo.run(MOST_UNITS);
+        }
+        Pace::Pieces => {
+            duo.read(random.pick(&[0x030, 0x032]));
+            for _ in 0..random.below(3) {
+                duo.run(any_limit(random));
+            }
+        }
+        Pace::Runs => {
+            for _ in 0..random.between(1, 3) {
+                sometimes_look(duo, random);
+                duo.run(random.below(24));
+            }
+        }
+        Pace::Mixed => take_some(duo, random, 8),
+    }
 }
 
 /// Feeds just the bytes that are lacking, as a take or a run tells them, until
@@ -205,7 +227,7 @@ pub fn load(duo: &mut Duo, random: &mut Random, bytes: &[u8]) {
 
 /// Runs as far as it goes; whether a unit was done.
 fn took_some(duo: &mut Duo) -> bool {
-    let (_, [units, _]) = duo.run(65_535);
+    let (_, [units, _]) = duo.run(MOST_UNITS);
     units != 0
 }
 
@@ -240,14 +262,17 @@ fn end_of_stream(duo: &mut Duo, random: &mut Random) {
             take_one(duo, random);
         }
     }
-    duo.run(65_535);
+    duo.run(MOST_UNITS);
 }
 
 /// Limits at and past the most of a run, and small ones.
 pub fn any_limit(random: &mut Random) -> u32 {
-    match random.below(4) {
-        0 => random.pick(&[0, 65_535, 65_536, 65_537, 0x2_0000, 0x8000_0000, u32::MAX]),
-        1 => 0x1_0000 * random.below(4) + random.below(3),
+    let highest = random.pick(&[MOST_UNITS, u32::MAX]);
+    match random.below(6) {
+        0 => random.pick(&[0, 65_535, 65_536, 0x8000_0000, u32::MAX]),
+        1 => random.between(MOST_UNITS - 1, MOST_UNITS + 1),
+        2 => 0x1_0000 * random.below(18) + random.below(3),
+        3 => random.between(65_536, highest),
         _ => random.below(1000),
     }
 }

@@ -2,7 +2,7 @@
 
 use crate::call::{Call, Kind, KINDS};
 use crate::course::{Mark, Run, CASES, LIES, MOST_ZEROS, WORDS};
-use crate::recording::{found_at, Found, NUMBER_BYTES, SECTIONS};
+use crate::recording::{found_at, has_long_stream, Found, NUMBER_BYTES, SECTIONS};
 use model::words::{FormatWords, DONE, VALUE_WORDS, WAITING};
 use model::RECORDING_HEAD_BYTES;
 use std::collections::BTreeMap;
@@ -13,6 +13,8 @@ const UNITS: [u32; 13] = [
 ];
 /// A unit that is no command to write.
 const VERTEX: u32 = 0x01;
+/// The offset of the count's high half.
+const COUNT_HIGH: u16 = 0x032;
 /// What an attribute decodes to.
 const VALUES: [u32; 9] = [0, 1, 2, 3, 4, 5, 6, 7, 8];
 
@@ -65,6 +67,8 @@ pub struct Tally {
     marks: Counts<Mark>,
     /// What was found of recordings.
     found: Counts<Found>,
+    /// Reads of a count's high half that was not 0.
+    high_counts: u64,
 }
 
 fn add<K: Ord>(counts: &mut Counts<K>, key: K) {
@@ -114,6 +118,17 @@ impl Tally {
         }
         if answer == DONE {
             self.count_normal(call);
+            self.count_long(call);
+        }
+    }
+
+    /// Counts of an accepted call what no call had before document 02's L9.
+    fn count_long(&mut self, call: &Call) {
+        if has_long_stream(call) {
+            add(&mut self.found, Found::Long(call.kind()));
+        }
+        if let Call::ReadRegister { offset, value } = *call {
+            self.high_counts += u64::from(offset == COUNT_HIGH && value != 0);
         }
     }
 
@@ -182,6 +197,9 @@ impl Tally {
         let mut found = Found::all();
         found.retain(|found| !self.found.contains_key(found));
         unreached.extend(found.into_iter().map(Found::told));
+        if self.high_counts == 0 {
+            unreached.push("a count whose high half is not 0".into());
+        }
         unreached
     }
 
@@ -286,6 +304,7 @@ impl Tally {
             "waiting: {} numbers of bytes lacking, at most {most}",
             self.lacking.len()
         );
+        println!("counts whose high half is not 0: {}", self.high_counts);
         self.print_marks();
         self.print_found();
     }
@@ -294,6 +313,14 @@ impl Tally {
         let of = |found: Found| times(&self.found, &found);
         let (good, cut) = (of(Found::Nothing), of(Found::StreamCut));
         println!("recordings with a good head: {good}; cut in the stream: {cut}");
+        let long: String = Found::all()
+            .into_iter()
+            .filter_map(|found| match found {
+                Found::Long(kind) => Some(format!("  {}:{}", kind.name(), of(found))),
+                _ => None,
+            })
+            .collect();
+        println!("streams above 65,535 bytes, by call:{long}");
         println!("faults of heads (wrong; cut after 0, 1, 2, 3 bytes of a number):");
         for (at, section) in SECTIONS.iter().enumerate() {
             let cuts: Vec<String> = (0..NUMBER_BYTES)

@@ -81,6 +81,20 @@ impl Units {
         self.cp_load((0x50 + 0x10 * at as u8) | format, number);
     }
 
+    /// Loads all words that rule vertices, as they are: what follows means the same
+    /// whatever came before.
+    pub fn load_formats(&mut self) {
+        let CpRegisters { vcd, vat, .. } = self.cp;
+        for (at, number) in vcd.into_iter().enumerate() {
+            self.load_word(at, 0, number);
+        }
+        for (format, groups) in (0..).zip(vat) {
+            for (group, number) in groups.into_iter().enumerate() {
+                self.load_word(2 + group, format, number);
+            }
+        }
+    }
+
     fn add_cp_load(&mut self, random: &mut Random) {
         let low = random.u8() & 15;
         match random.below(9) {

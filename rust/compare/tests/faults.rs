@@ -123,6 +123,10 @@ const RULED_OUT: &[Fault] = &[
     Fault::LookUnitZeroed,
     Fault::LookLackingZeroed,
     Fault::TakeNamesAnother,
+    Fault::OldSizeOfLooks,
+    Fault::OldSizeOfTakes,
+    Fault::PendingModuloOfLooks,
+    Fault::PendingModuloOfTakes,
     Fault::ReadingTailPassed,
     Fault::ReadingLeavesTheDraw,
     Fault::ReadingLeavesStaleWords,
@@ -150,6 +154,9 @@ const RULED_OUT: &[Fault] = &[
     Fault::WritingMasksTheState,
     Fault::WritingClearsXfWords,
     Fault::HeadWritingTellsTheFile,
+    Fault::ReadingOneLonger,
+    Fault::ReadingTellsLengthModulo,
+    Fault::WritingOneLonger,
 ];
 
 /// They are found where both sides have the same.

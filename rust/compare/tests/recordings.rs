@@ -1,4 +1,4 @@
-//! Document 02's L1, of the proved library and of the twin. Files are made here, number
+//! Document 02's L1, with the longer stream of its L9, of the proved library and of the twin. Files are made here, number
 //! by number. A file cut at every byte of its head (and read at every seventh), with
 //! every number at its bounds and past them, with two faults, and with streams and rests
 //! of many lengths: its answer and the byte of its fault are those that the place gives.
@@ -12,7 +12,9 @@ use compare::side::{Proved, Side, Twin};
 use model::words::{StateWords, StreamWords, DONE};
 
 const HEAD: usize = 18_016;
-const LONGEST: usize = 65_535;
+const LONGEST: usize = 1_048_575;
+/// The longest stream until L9.
+const LONGEST_BEFORE: usize = 65_535;
 const XF_WORDS: usize = 4184;
 /// What is lent holds this before a call.
 const BEFORE: u32 = 0x5A5A_5A5A;
@@ -226,12 +228,14 @@ fn the_first_of_two_faults() {
     }
 }
 
-/// Streams of 0 to 65,535 bytes, one byte fewer and one more; and a count above these,
+/// Streams of 0 to 1,048,575 bytes, one byte fewer and one more; and a count above these,
 /// whatever is behind it.
 #[test]
 fn streams_of_many_lengths() {
     let random = &mut Random::new(5);
-    for length in [0, 1, 2, 3, 4, 255, 256, 1000, 65_534, LONGEST] {
+    let about_before = [65_534, LONGEST_BEFORE, 65_536, 65_537];
+    let lengths = [0, 1, 2, 3, 4, 255, 256, 1000, LONGEST - 1, LONGEST];
+    for length in about_before.into_iter().chain(lengths) {
         let mut file = file_of(random, length, false);
         accepted(&file);
         file.push(0x48);
@@ -241,8 +245,8 @@ fn streams_of_many_lengths() {
             rest_refused(&file[..HEAD], 22);
         }
     }
-    for count in [65_536, 65_537, 0x1_0009, 0x100_0009, u32::MAX] {
-        for length in [0, 9, LONGEST, 65_536, 65_537] {
+    for count in [1_048_576, 1_048_577, 0x10_0009, 0x100_0009, u32::MAX] {
+        for length in [0, 9, LONGEST_BEFORE, LONGEST, LONGEST + 1, LONGEST + 2] {
             let mut file = file_of(random, length, false);
             put(&mut file, HEAD - NUMBER_BYTES, count);
             refused(&file, 20, HEAD - NUMBER_BYTES);
@@ -256,7 +260,7 @@ fn streams_of_many_lengths() {
 fn there_and_back() {
     let random = &mut Random::new(6);
     for round in 0..40 {
-        let length = random.pick(&[0, 1, 50, 3000, LONGEST]);
+        let length = random.pick(&[0, 1, 50, 3000, LONGEST_BEFORE, LONGEST]);
         let file = file_of(random, length, round % 4 == 0);
         let reader = accepted(&file);
         assert!(written(&reader.state, &reader.xf, &file[HEAD..]) == file);

@@ -1,6 +1,6 @@
 //! Every call, accepted and refused, of the proved library and of the twin. The
-//! answers that are expected come from document 01, from document 02's L1, L2 and L6,
-//! which stand where the two differ, and from `include/duckhammock.h`. That a
+//! answers that are expected come from document 01, from document 02's L1, L2, L6 and
+//! L9, which stand where the two differ, and from `include/duckhammock.h`. That a
 //! refused call and a look change nothing, that only a waiting look or take tells
 //! the bytes lacking, and that a take tells what a look right before it told, is
 //! seen after every call (`Duo`).
@@ -14,6 +14,8 @@ use model::words::{CommandWords, FormatWords, UnitWords, DONE, WAITING};
 
 /// A recording up to its stream.
 const HEAD: usize = 18_016;
+/// A stream that is longer than a recording's.
+const LONG: usize = 1_048_576;
 
 /// Both sides, held to what is expected.
 struct Tour(Duo);
@@ -412,7 +414,7 @@ fn stream(tour: &mut Tour) {
     tour.takes([0x00, 0, 0, 0, 0, 1]);
     tour.takes([0x48, 0, 0, 0, 0, 1]);
     tour.takes([0x44, 0, 0, 0, 0, 1]);
-    tour.runs(65_535, WAITING, [0, 4]);
+    tour.runs(1_048_575, WAITING, [0, 4]);
     tour.feeds(&[0x41, 1, 2, 3], DONE);
     tour.runs(9, WAITING, [1, 1]);
     tour.holds(word::BP + 0x41, 0x01_0203);
@@ -428,22 +430,23 @@ fn whole_rings(tour: &mut Tour) {
     tour.reads(0x000, 0b1000);
     tour.runs(255, DONE, [255, 0]);
     tour.feeds(&[0x48; 3], DONE);
-    // A limit above 65,535 counts as that.
+    // A limit above the units that are there.
     tour.runs(0x1_0000, WAITING, [3, 1]);
 }
 
-/// "a limit of units (0 to 65,535)"; more counts as 65,535.
+/// "a limit of units (0 to 65,535)"; L9 has 1,048,575, and "a run's higher limit counts
+/// as that".
 fn most_units(tour: &mut Tour) {
-    for limit in [65_535, 65_536, u32::MAX] {
+    for limit in [1_048_575, 1_048_576, u32::MAX] {
         bench(tour);
         tour.0.hold(Lent {
-            ring: 65_536,
+            ring: 1_048_576,
             ..USUAL
         });
-        tour.0.poke(word::END, 0x1_1000);
-        tour.feeds(&[0x48; 65_536], 11);
-        tour.feeds(&[0x48; 65_535], DONE);
-        tour.runs(limit, DONE, [65_535, 0]);
+        tour.0.poke(word::END, 0x10_1000);
+        tour.feeds(&vec![0x48; 1_048_576], 11);
+        tour.feeds(&vec![0x48; 1_048_575], DONE);
+        tour.runs(limit, DONE, [1_048_575, 0]);
         tour.runs(limit, WAITING, [0, 1]);
     }
 }
@@ -996,7 +999,7 @@ fn patches_fed(tour: &mut Tour) {
         for bytes in streams {
             tour.feeds(bytes, DONE);
             tour.writes(0x004, 1, DONE);
-            tour.runs(65_535, WAITING, [2, 1]);
+            tour.runs(1_048_575, WAITING, [2, 1]);
         }
         tour.holds(word::BP + 0x41, 0xABC_D35);
         tour.holds(word::BP + 0xFE, 0xFF_FFFF);
@@ -1083,7 +1086,7 @@ fn recordings(tour: &mut Tour) {
     assert_eq!(file[18_008..18_012], xf);
     // Into a longer output, and with the longest stream.
     assert!(tour.records(&[0x61, 0x41], HEAD + 99) == file);
-    let longest = tour.records(&[0; 65_535], HEAD + 65_535);
+    let longest = tour.records(&vec![0; 1_048_575], HEAD + 1_048_575);
     tour.loads(&longest);
     tour.loads(&file);
     tour.loads(&with(&file, 4 + 4 * 0xFE, 0x12_3456));
@@ -1119,7 +1122,7 @@ fn recordings_run(tour: &mut Tour) {
     tour.holds(word::BP + 0x41, 0xABC_DEF);
     tour.holds(word::VCD_0, 0x200);
     tour.feeds(&file[HEAD..], DONE);
-    tour.runs(65_535, WAITING, [3, 1]);
+    tour.runs(1_048_575, WAITING, [3, 1]);
     tour.holds(word::BP + 0x41, 0xABC_D05);
     tour.holds(word::BP + 0xFE, 0xFF_FFFF);
 }
@@ -1133,7 +1136,7 @@ fn refused_recordings(tour: &mut Tour) {
         (0, 257, 20),
         (1028, 61, 20),
         (1272, 4183, 20),
-        (18_012, 65_536, 20),
+        (18_012, 1_048_576, 20),
         (18_012, u32::MAX, 20),
         (4, 0x100_0000, 21),
         (1020, 0x100_0000, 21),
@@ -1153,15 +1156,31 @@ fn refused_recordings(tour: &mut Tour) {
     }
     tour.not_loaded(&[], 22, 0);
     tour.not_loaded(&file[..HEAD - 1], 22, 18_015);
-    for (count, bytes, refusal) in [(9, 8, 22), (9, 0, 22), (0, 1, 23), (65_535, 65_536, 23)] {
-        let mut other = with(&file, 18_012, count);
+    refused_rests(tour, &file);
+    refused_xf_lengths(tour, &file);
+}
+
+/// What is behind the head is not the stream that it tells.
+fn refused_rests(tour: &mut Tour, file: &[u8]) {
+    for (count, bytes, refusal) in [
+        (9, 8, 22),
+        (9, 0, 22),
+        (0, 1, 23),
+        (65_536, 65_535, 22),
+        (1_048_575, 1_048_576, 23),
+    ] {
+        let mut other = with(file, 18_012, count);
         other.resize(HEAD + bytes, 0x48);
         tour.rest_not_loaded(&other, refusal);
     }
-    let spoilt = with(&file, 0, 255);
+}
+
+/// 2 before the faults of a file.
+fn refused_xf_lengths(tour: &mut Tour, file: &[u8]) {
+    let spoilt = with(file, 0, 255);
     for xf in [0, 4183, 4185] {
         tour.0.lend(256, xf, 129);
-        for file in [&file, &spoilt, &vec![]] {
+        for file in [file, &spoilt, &[]] {
             let (whole, _) = tour.0.read_recording(file);
             let (head, _) = tour.0.read_recording_head(file);
             tour.same();
@@ -1177,16 +1196,16 @@ fn refused_writings(tour: &mut Tour) {
     tour.recording_refused(0, HEAD - 1, 16);
     tour.recording_refused(0, 0, 16);
     tour.head_refused(9, HEAD - 1, 16);
-    tour.recording_refused(65_536, 0, 20);
-    tour.recording_refused(65_536, HEAD + 65_536, 20);
-    for length in [65_536, 0x1_0000_0000, 0x1_0000_0009, usize::MAX] {
+    tour.recording_refused(LONG, 0, 20);
+    tour.recording_refused(LONG, HEAD + LONG, 20);
+    for length in [LONG, 0x1_0000_0000, 0x1_0000_0009, usize::MAX] {
         tour.head_refused(length, 0, 20);
         tour.head_refused(length, HEAD, 20);
     }
     for xf in [0, 4183, 4185] {
         tour.0.lend(256, xf, 129);
-        tour.recording_refused(65_536, 0, 2);
-        tour.head_refused(65_536, 0, 2);
+        tour.recording_refused(LONG, 0, 2);
+        tour.head_refused(LONG, 0, 2);
     }
     for (index, number) in [
         (word::BP, 0x100_0000),
@@ -1198,8 +1217,8 @@ fn refused_writings(tour: &mut Tour) {
         tour.0.poke(index, number);
         tour.recording_refused(9, HEAD + 9, 1);
         tour.0.lend(256, 4183, 129);
-        tour.recording_refused(65_536, 0, 1);
-        tour.head_refused(65_536, 0, 1);
+        tour.recording_refused(LONG, 0, 1);
+        tour.head_refused(LONG, 0, 1);
     }
     bench(tour);
     for index in 0..11 {

@@ -13,7 +13,7 @@ const START: u32 = 0x1000;
 const SIZE: usize = 256;
 /// From the first place, from the middle, and round the end.
 const PLACES: [usize; 5] = [0, 100, SIZE - 70, SIZE - 5, SIZE - 1];
-const MOST_UNITS: u32 = 65_535;
+const MOST_UNITS: u32 = 1_048_575;
 /// What is lent holds this before a call; no answer is this number.
 const BEFORE: u32 = 0x5A5A_5A5A;
 const XF_LOAD: u8 = 0x10;

@@ -10,6 +10,7 @@ use crate::scenarios::refusals::good_bench;
 use crate::stream::{open_ring_of, scatter_registers, Ring};
 use crate::units::Units;
 use crate::world::word;
+use model::MOST_UNITS;
 
 /// Where a draw is cut: so many of its bytes are before the ring's end, so many
 /// are written before the first run, and that has a limit.
@@ -20,7 +21,7 @@ struct Cut {
 }
 
 /// No draw open, and both pointers so many bytes before the ring's end.
-fn place(duo: &mut Duo, ring: &Ring, before_end: usize) {
+pub fn place(duo: &mut Duo, ring: &Ring, before_end: usize) {
     let pointer = ring.start + (ring.size - before_end as u32) % ring.size;
     duo.poke(word::DRAW_OPEN, 0);
     duo.poke(word::WRITE, pointer);
@@ -33,7 +34,7 @@ fn play_cut(duo: &mut Duo, ring: &Ring, bytes: &[u8], cut: &Cut) {
     duo.feed(first);
     duo.run(cut.limit);
     duo.feed(second);
-    duo.run(65_535);
+    duo.run(MOST_UNITS);
 }
 
 /// A draw of three vertices cut at every byte by the write pointer, at every
@@ -49,7 +50,7 @@ pub fn every_cut(duo: &mut Duo) {
     let bytes = [0x90, 0, 3, 1, 2, 3, 4, 5, 6, 0x48];
     for before_end in 0..=bytes.len() {
         for written in 0..=bytes.len() {
-            for limit in [0, 1, 2, 3, 4, 5, 65_535] {
+            for limit in [0, 1, 2, 3, 4, 5, MOST_UNITS] {
                 let cut = Cut {
                     before_end,
                     written,
@@ -84,7 +85,7 @@ pub fn draws_cut(duo: &mut Duo, random: &mut Random) {
         let cut = Cut {
             before_end: random.below(bytes.len() as u32 + 1) as usize,
             written: random.below(bytes.len() as u32 + 1) as usize,
-            limit: random.pick(&[65_535, count, few, few]),
+            limit: random.pick(&[MOST_UNITS, count, few, few]),
         };
         play_cut(duo, &ring, &bytes, &cut);
     }
@@ -109,7 +110,7 @@ fn zeros_at(duo: &mut Duo, random: &mut Random, ring: &Ring, zeros: usize, lie: 
     duo.feed(&bytes);
     duo.run(random.below(zeros as u32 + 3));
     duo.poke(word::READ, read);
-    duo.run(65_535);
+    duo.run(MOST_UNITS);
 }
 
 /// Zeros in a row of every length, about blocks of 8 and of 128: of each length
@@ -154,7 +155,7 @@ pub fn xf_ends(duo: &mut Duo, random: &mut Random) {
         units.draw_of(random, 0, 1);
         place(duo, &ring, random.between(1, 500) as usize);
         duo.feed(&units.bytes());
-        duo.run(random.pick(&[2, 3, 5, 65_535]));
-        duo.run(65_535);
+        duo.run(random.pick(&[2, 3, 5, MOST_UNITS]));
+        duo.run(MOST_UNITS);
     }
 }

@@ -8,6 +8,7 @@ use crate::scenarios::draws::set_format;
 use crate::stream::{open_ring_of, scatter_registers, skip};
 use crate::units::Units;
 use model::words::{FormatWords, DONE};
+use model::MOST_UNITS;
 
 /// Streams in a ring that often wraps, whose runs have many draws and loads.
 pub fn stream(duo: &mut Duo, random: &mut Random) {
@@ -51,13 +52,13 @@ fn feed(duo: &mut Duo, random: &mut Random, bytes: &[u8]) {
 /// Runs, until what is there is taken.
 fn take(duo: &mut Duo, random: &mut Random) {
     let few = random.below(20);
-    duo.run(random.pick(&[65_535, 65_535, 100_000, few]));
+    duo.run(random.pick(&[MOST_UNITS, MOST_UNITS, 100_000, few]));
     for _ in 0..random.pick(&[0, 0, 8]) {
         if duo.run(random.between(1, 9)).0 != DONE {
             return;
         }
     }
-    duo.run(65_535);
+    duo.run(MOST_UNITS);
 }
 
 /// A number of a vertex format, the first and the last more often.
@@ -128,7 +129,7 @@ fn one_word(duo: &mut Duo, random: &mut Random, at: usize, refused: bool) {
     let length = length_of(&to).unwrap_or(2);
     units.draw(random, head, second as u16, length);
     duo.feed(&units.bytes());
-    duo.run(65_535);
+    duo.run(MOST_UNITS);
 }
 
 /// A format that is good, and one that differs in one word and is refused, or
@@ -163,9 +164,9 @@ pub fn each_address(duo: &mut Duo, random: &mut Random) {
         load_address(&mut units, random, address);
         units.draw_of(random, format, counts[1]);
         duo.feed(&units.bytes());
-        if duo.run(65_535).0 == 7 {
+        if duo.run(MOST_UNITS).0 == 7 {
             skip(duo, &ring, 6);
-            duo.run(65_535);
+            duo.run(MOST_UNITS);
         }
     }
 }

@@ -4,6 +4,7 @@
 pub mod cuts;
 mod draws;
 pub mod formats_between_draws;
+mod mebibyte;
 mod patches;
 mod recordings;
 mod refusals;
@@ -23,7 +24,8 @@ use crate::random::Random;
 const FIXED: u64 = 0x6669_7865;
 
 /// The worked numbers, every refusal from every call that can give it, every fault
-/// of a recording, every row of the tables, all that a run is to go through.
+/// of a recording, every row of the tables, all that a run is to go through; and last,
+/// as they take the longest, long recordings and the bounds of rings and runs.
 pub fn fixed(duo: &mut Duo) {
     worked::worked(duo);
     refusals::every_refusal(duo);
@@ -36,6 +38,8 @@ pub fn fixed(duo: &mut Duo) {
     cuts::every_cut(duo);
     cuts::every_zeros(duo, random);
     cuts::xf_ends(duo, random);
+    recordings::every_long_fault(duo);
+    mebibyte::every_bound(duo);
 }
 
 /// One scenario by chance.
@@ -67,8 +71,9 @@ pub fn by_chance(duo: &mut Duo, random: &mut Random) {
             _ => formats_between_draws::each_word(duo, random),
         },
         44 | 45 => recordings::recordings(duo, random),
-        _ => match random.below(8) {
+        _ => match random.below(12) {
             0 => draws::big_draw(duo, random),
+            8..=11 => mebibyte::large(duo, random),
             1..=3 => registers::offsets(duo, random),
             4 => registers::first_bytes(duo, random),
             _ => streams::runs(duo, random),

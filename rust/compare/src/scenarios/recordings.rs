@@ -3,12 +3,12 @@
 
 use crate::duo::Duo;
 use crate::random::Random;
-use crate::recording::{Holds, Section, NUMBER_BYTES, SECTIONS};
+use crate::recording::{Holds, Section, LONGEST_BEFORE, NUMBER_BYTES, SECTIONS};
 use crate::stream::{open_ring, open_ring_of, play, scatter_registers, Pace};
 use crate::units::Units;
 use crate::world::{word, Lent, USUAL};
 use model::words::DONE;
-use model::{LONGEST_STREAM, RECORDING_HEAD_BYTES as HEAD};
+use model::{LARGEST_RING, LONGEST_STREAM, RECORDING_HEAD_BYTES as HEAD};
 
 /// The bits of the registers that are narrower than a word.
 const NARROW: [(usize, usize, u32); 3] = [
@@ -27,7 +27,11 @@ const REGISTERS: [usize; 10] = [11, 14, 15, 38, 39, 54, 55, 70, 71, 326];
 /// damaged one, or writings that are refused.
 pub fn recordings(duo: &mut Duo, random: &mut Random) {
     match random.below(9) {
-        0..=2 => written_and_run(duo, random),
+        0..=2 => {
+            let long = random.once_in(6);
+            let length = random.pick(&[LONGEST_BEFORE, LONGEST_BEFORE, 40_000]);
+            written_and_run(duo, random, long.then_some(length));
+        }
         3..=5 => damaged(duo, random),
         6 | 7 => refused_writings(duo, random),
         _ => rests(duo, random),
@@ -58,10 +62,19 @@ fn leave_a_draw(duo: &mut Duo, random: &mut Random) {
     }
 }
 
-/// What one machine recorded another reads, whole or in two parts, and runs.
-fn written_and_run(duo: &mut Duo, random: &mut Random) {
+/// A ring for a stream of so many bytes, or of any.
+fn ring_for(duo: &mut Duo, random: &mut Random, length: Option<usize>) {
+    match length {
+        None => open_ring(duo, random),
+        Some(length) if length <= LONGEST_BEFORE => open_ring_of(duo, random, 65_536),
+        Some(_) => open_ring_of(duo, random, LARGEST_RING),
+    };
+}
+
+/// What one machine recorded another reads, whole or in two parts, and runs. A stream may
+/// be brought to a length.
+pub fn written_and_run(duo: &mut Duo, random: &mut Random, length: Option<usize>) {
     duo.scenario("recordings");
-    let long = random.once_in(6);
     open_ring(duo, random);
     let mut units = Units::new(scatter_registers(duo, random));
     record_registers(duo, random);
@@ -69,24 +82,23 @@ fn written_and_run(duo: &mut Duo, random: &mut Random) {
         units.add(random);
     }
     let mut stream = units.bytes();
-    if long {
-        let length = random.pick(&[LONGEST_STREAM, LONGEST_STREAM, 40_000]);
-        stream.resize(length, 0);
+    if let Some(length) = length {
+        stream.resize(length, random.pick(&[0x00, 0x00, 0x48]));
     }
     let tail = random.pick(&[0, 0, 1, 500]);
     let (_, file) = duo.write_recording(&stream, HEAD + stream.len() + tail);
     duo.write_recording_head(stream.len(), HEAD + tail);
-    if long {
-        open_ring_of(duo, random, 65_536);
-    } else {
-        open_ring(duo, random);
-    }
+    ring_for(duo, random, length);
     scatter_registers(duo, random);
     leave_a_draw(duo, random);
     read(duo, random, &file);
-    let pace = random.pick(&[Pace::Bulk, Pace::Runs, Pace::Mixed]);
+    let paces = match length {
+        None => [Pace::Bulk, Pace::Runs, Pace::Mixed],
+        Some(_) => [Pace::Bulk, Pace::Bulk, Pace::Pieces],
+    };
     let recorded = file.get(HEAD..).unwrap_or_default();
-    play(duo, random, recorded, if long { Pace::Bulk } else { pace });
+    let pace = random.pick(&paces);
+    play(duo, random, recorded, pace);
 }
 
 /// A whole file, or its head and the count of what is behind it.
@@ -213,18 +225,22 @@ fn any_number(random: &mut Random, section: &Section) -> u32 {
 /// Another count of the stream; sometimes there are as many bytes behind it.
 fn count_stream(random: &mut Random, file: &mut Vec<u8>, length: u32) {
     let any = random.word();
+    let longest = LONGEST_STREAM as u32;
     let count = random.pick(&[
         length + 1,
         length.saturating_sub(1),
         0x1_0000 + length,
+        0x10_0000 + length,
         0x100_0000 + length,
         65_535,
-        65_535,
         65_536,
+        longest,
+        longest + 1,
+        longest + 1,
         any,
     ]);
     put(file, HEAD - NUMBER_BYTES, count);
-    if count <= 65_536 && file.len() >= HEAD && random.once_in(2) {
+    if count <= longest + 1 && file.len() >= HEAD && random.once_in(2) {
         file.resize(HEAD + count as usize, 0x48);
     }
 }
@@ -235,21 +251,24 @@ fn refused_writings(duo: &mut Duo, random: &mut Random) {
     duo.scenario("refused recordings");
     for _ in 0..random.between(4, 8) {
         any_machine(duo, random);
-        let mut length = random.pick(&[0, 1, 100, LONGEST_STREAM, LONGEST_STREAM]);
+        let mut length = random.pick(&[0, 1, 100, LONGEST_BEFORE, 65_536, LONGEST_STREAM]);
         let mut short = 0;
         for _ in 0..random.pick(&[0, 1, 1, 1, 2, 3]) {
             match random.below(4) {
                 0 => widen_register(duo, random),
                 1 => lend_xf(duo, random.pick(&OTHER_LENGTHS)),
-                2 => length = LONGEST_STREAM + random.pick(&[1, 2, 100]),
+                2 => length = LONGEST_STREAM + random.pick(&[1, 1, 2, 100]),
                 _ => short = random.pick(&[1, 1, 2, 5000, HEAD, HEAD + length]),
             }
         }
-        let room = HEAD + length - short.min(HEAD + length);
-        let stream = random.bytes(length);
-        duo.write_recording(&stream, room);
+        // A stream of a mebibyte is seldom there; its head is written always.
+        if length <= 65_536 || random.once_in(8) {
+            let room = HEAD + length - short.min(HEAD + length);
+            let stream = random.bytes(length);
+            duo.write_recording(&stream, room);
+        }
         let wide = 0x1_0000_0000 + length;
-        let told = random.pick(&[length, wide, wide, usize::MAX]);
+        let told = random.pick(&[length, length, wide, usize::MAX]);
         duo.write_recording_head(told, HEAD - short.min(HEAD));
     }
 }
@@ -268,13 +287,14 @@ fn rests(duo: &mut Duo, random: &mut Random) {
     duo.scenario("rests of recordings");
     for _ in 0..random.between(3, 10) {
         let any = random.word();
-        let length = random.pick(&[0, 1, 700, 65_535, 65_536, any]);
+        let length = random.pick(&[0, 1, 700, 65_535, 65_536, 1_048_575, 1_048_576, any]);
         let (bytes, any) = (length as usize, random.word() as usize);
         let rest = random.pick(&[
             bytes,
             bytes + 1,
             bytes.saturating_sub(1),
             bytes + 0x1_0000,
+            bytes + 0x10_0000,
             bytes + 0x1_0000_0000,
             0,
             usize::MAX,
@@ -284,23 +304,41 @@ fn rests(duo: &mut Duo, random: &mut Random) {
     }
 }
 
-/// Files and writings with each kind of fault, whatever the seed.
-pub fn every_fault(duo: &mut Duo) {
-    duo.scenario("every fault of a recording");
-    let random = &mut Random::new(0x7265_636F);
+/// The seed of the fixed part.
+const FIXED: u64 = 0x7265_636F;
+
+/// A recording with a stream of nine bytes.
+fn recorded(duo: &mut Duo, random: &mut Random) -> Vec<u8> {
     any_machine(duo, random);
     duo.poke(word::BP + 0xFE, 0x12_3456);
     let stream = random.bytes(9);
     let (_, file) = duo.write_recording(&stream, HEAD + 9);
     duo.write_recording_head(9, HEAD);
+    file
+}
+
+/// Files and writings with each kind of fault, whatever the seed.
+pub fn every_fault(duo: &mut Duo) {
+    duo.scenario("every fault of a recording");
+    let random = &mut Random::new(FIXED);
+    let file = recorded(duo, random);
     for section in &SECTIONS {
         for number in [0, section.numbers - 1] {
             every_number(duo, random, &file, section, number);
         }
     }
-    every_rest(duo, random, &file);
+    every_rest(duo, random, &file, &RESTS);
     every_length(duo, random, &file);
-    every_writing(duo);
+    every_writing(duo, &WRITINGS);
+}
+
+/// Those with a stream of a mebibyte, which take longer.
+pub fn every_long_fault(duo: &mut Duo) {
+    duo.scenario("every fault of a long recording");
+    let random = &mut Random::new(FIXED);
+    let file = recorded(duo, random);
+    every_rest(duo, random, &file, &LONG_RESTS);
+    every_writing(duo, &LONG_WRITINGS);
 }
 
 /// A number at and past its bounds, and the file cut behind it and at each of its
@@ -324,23 +362,39 @@ fn every_number(duo: &mut Duo, random: &mut Random, file: &[u8], section: &Secti
     }
 }
 
+/// A stream's count, and the bytes behind the head.
+type Rest = (u32, usize);
+
+const RESTS: [Rest; 17] = [
+    (9, 9),
+    (9, 8),
+    (9, 10),
+    (9, 0),
+    (0, 0),
+    (0, 1),
+    (65_535, 65_535),
+    (65_535, 65_534),
+    (65_535, 65_536),
+    (65_536, 0),
+    (65_536, 65_536),
+    (65_536, 65_537),
+    (0x1_0009, 9),
+    (0x10_0009, 9),
+    (0x100_0009, 9),
+    (1_048_575, 65_535),
+    (1_048_576, 0),
+];
+
+const LONG_RESTS: [Rest; 4] = [
+    (1_048_575, 1_048_574),
+    (1_048_575, 1_048_575),
+    (1_048_575, 1_048_576),
+    (1_048_576, 1_048_576),
+];
+
 /// What is behind the head: cut, too long, and with a count above the limit.
-fn every_rest(duo: &mut Duo, random: &mut Random, file: &[u8]) {
-    for (count, bytes) in [
-        (9, 9),
-        (9, 8),
-        (9, 10),
-        (9, 0),
-        (0, 0),
-        (0, 1),
-        (65_535, 65_535),
-        (65_535, 65_534),
-        (65_535, 65_536),
-        (65_536, 0),
-        (65_536, 65_536),
-        (65_536, 65_537),
-        (0x100_0009, 9),
-    ] {
+fn every_rest(duo: &mut Duo, random: &mut Random, file: &[u8], rests: &[Rest]) {
+    for &(count, bytes) in rests {
         let mut spoilt = file.to_vec();
         spoilt.resize(HEAD + bytes, 0x48);
         put(&mut spoilt, HEAD - NUMBER_BYTES, count);
@@ -363,23 +417,36 @@ fn every_length(duo: &mut Duo, random: &mut Random, file: &[u8]) {
     }
 }
 
+/// A register too wide, XF words, a stream's bytes and the output's.
+type Writing = (Option<(usize, u32)>, usize, usize, usize);
+
+const WRITINGS: [Writing; 8] = [
+    (Some((word::BASES + 15, 0x400_0000)), 4184, 0, HEAD),
+    (Some((word::STRIDES, 0x100)), 4184, 0, HEAD),
+    (None, 4185, 0, HEAD),
+    (None, 4184, 9, HEAD + 8),
+    (None, 4184, 9, HEAD - 1),
+    (None, 4184, 9, HEAD + 20),
+    (None, 4184, LONGEST_BEFORE, HEAD + LONGEST_BEFORE),
+    (None, 4184, 65_536, HEAD + 65_536),
+];
+
+/// One byte too long.
+const LONG: usize = LONGEST_STREAM + 1;
+
+const LONG_WRITINGS: [Writing; 6] = [
+    (Some((word::BP + 0xFE, 0x100_0000)), 4183, LONG, 0),
+    (None, 4183, LONG, 0),
+    (None, 4184, LONG, 0),
+    (None, 4184, LONG, HEAD + LONG),
+    (None, 4184, LONGEST_STREAM, HEAD + LONGEST_STREAM - 1),
+    (None, 4184, LONGEST_STREAM, HEAD + LONGEST_STREAM),
+];
+
 /// 1, 2, 20 and 16, each with all that come later; window, control and draw are such
 /// as no machine has.
-fn every_writing(duo: &mut Duo) {
-    let long = LONGEST_STREAM + 1;
-    for (wide, xf, length, room) in [
-        (Some((word::BP + 0xFE, 0x100_0000)), 4183, long, 0),
-        (Some((word::BASES + 15, 0x400_0000)), 4184, 0, HEAD),
-        (Some((word::STRIDES, 0x100)), 4184, 0, HEAD),
-        (None, 4183, long, 0),
-        (None, 4185, 0, HEAD),
-        (None, 4184, long, 0),
-        (None, 4184, long, HEAD + long),
-        (None, 4184, 9, HEAD + 8),
-        (None, 4184, 9, HEAD - 1),
-        (None, 4184, LONGEST_STREAM, HEAD + LONGEST_STREAM),
-        (None, 4184, 9, HEAD + 20),
-    ] {
+fn every_writing(duo: &mut Duo, writings: &[Writing]) {
+    for &(wide, xf, length, room) in writings {
         duo.fresh();
         (0..=word::LEFT).for_each(|index| duo.poke(index, u32::MAX));
         lend_xf(duo, xf);

@@ -5,6 +5,7 @@ use crate::random::Random;
 use crate::stream::{open_ring, scatter_registers, take_one, Ring};
 use crate::units::Units;
 use crate::world::word;
+use model::LARGEST_RING;
 
 /// Values of a control word that are at its width or past it.
 const CONTROLS: [u32; 12] = [
@@ -125,10 +126,13 @@ fn break_window(duo: &mut Duo, random: &mut Random, ring: &Ring) {
         1 => duo.poke(word::END, end - random.between(1, 31)),
         2 => poke_window(duo, [start, start + 224, start, start + 223]),
         3 => {
-            let size = 65_536 + 32;
-            let start = start.min(0xFFF0_0000);
+            let size = LARGEST_RING + 32;
+            let start = start.min(0xFF00_0000);
             poke_window(duo, [start, start + size, start, start + 1]);
-            duo.lend(size as usize, 4184, 129);
+            // Seldom, as whole rings are compared.
+            if random.once_in(4) {
+                duo.lend(size as usize, 4184, 129);
+            }
         }
         4 => duo.poke(word::END, start.wrapping_sub(256)),
         5 => duo.poke(word::END, start),

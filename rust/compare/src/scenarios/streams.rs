@@ -7,6 +7,7 @@ use crate::stream::{
 };
 use crate::units::{bad_opcode, Units};
 use model::words::{DONE, WAITING};
+use model::MOST_UNITS;
 
 /// Units that mean something; sometimes the last is refused.
 pub fn stream(duo: &mut Duo, random: &mut Random) {
@@ -129,7 +130,7 @@ pub fn mutated(duo: &mut Duo, random: &mut Random) {
             skip_some(duo, random, &ring);
         }
     }
-    duo.run(65_535);
+    duo.run(MOST_UNITS);
 }
 
 fn mutate(random: &mut Random, bytes: &mut Vec<u8>) {

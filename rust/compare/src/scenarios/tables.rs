@@ -5,14 +5,13 @@
 use crate::call::Patch;
 use crate::duo::Duo;
 use crate::scenarios::refusals::good_bench;
-use crate::world::{word, Lent, USUAL};
+use crate::world::word;
 
 pub fn every_table_row(duo: &mut Duo) {
     duo.scenario("every row of the tables");
     cp_addresses(duo);
     units(duo);
     commands(duo);
-    limits(duo);
     arrays(duo);
     attributes(duo);
     normals(duo);
@@ -58,21 +57,6 @@ fn commands(duo: &mut Duo) {
         // An XF load's one word, and a CP address that is listed.
         let a = if kind == 0x08 { 0x30 } else { 1 };
         duo.write_command([kind, a, 5, 7, 9], &[0x1234_5678], 9);
-    }
-}
-
-/// A full ring of the largest size: as many units as a run can do.
-fn limits(duo: &mut Duo) {
-    for limit in [65_534, 65_535, 65_536, u32::MAX] {
-        good_bench(duo);
-        duo.hold(Lent {
-            ring: 65_536,
-            ..USUAL
-        });
-        duo.poke(word::END, 0x1_1000);
-        duo.feed(&[0x48; 65_535]);
-        duo.run(limit);
-        duo.run(limit);
     }
 }
 

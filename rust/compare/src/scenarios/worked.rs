@@ -3,6 +3,7 @@
 use crate::call::Patch;
 use crate::duo::Duo;
 use crate::world::{word, USUAL};
+use model::MOST_UNITS;
 
 pub fn worked(duo: &mut Duo) {
     duo.scenario("worked numbers");
@@ -81,7 +82,7 @@ fn units(duo: &mut Duo) {
     duo.look_and_take();
     duo.feed(&[0; 255]);
     duo.feed(&[0]);
-    duo.run(65_535);
+    duo.run(MOST_UNITS);
     duo.feed(&[0x10, 0x00, 0x01, 0x10, 0x57]);
     duo.look_and_take();
 }

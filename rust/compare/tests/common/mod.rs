@@ -1,243 +1,19 @@
-//! A side that is the twin but for one fault, and the list of faults.
+//! A side that is the twin but for one fault.
 
+mod list;
 mod looks;
+mod mebibyte;
 mod recordings;
 mod takes;
 
 use compare::side::{Side, Twin};
+pub use list::{Fault, FAULTS};
 use model::words::{
     CommandWords, FormatWords, ReportWords, StateWords, StreamWords, UnitWords, ValueWords,
     VertexWords, DONE, VALUE_WORDS, VERTEX_WORDS, WAITING,
 };
-use model::ATTRIBUTES;
+use model::{ATTRIBUTES, MOST_UNITS};
 use recordings::{Behind, Reading, Writing};
-
-macro_rules! faults {
-    ($($fault:ident,)*) => {
-        #[derive(Clone, Copy, Debug, PartialEq, Eq)]
-        pub enum Fault {
-            /// None: a run is made of takes, as for the faults of runs.
-            OnlyTakes,
-            $($fault,)*
-        }
-
-        pub const FAULTS: &[Fault] = &[$(Fault::$fault,)*];
-    };
-}
-
-faults! {
-    ValueZeroed,
-    UnitZeroed,
-    LayoutZeroed,
-    ValuesZeroed,
-    RawWordsZeroed,
-    WholeZeroedByRefusal,
-    WholeLengthModulo,
-    WholeAbsentLeft,
-    WholeWithoutLast,
-    WholeAttributesSwapped,
-    WholeNanKept,
-    WrittenZeroed,
-    PatchWrittenZeroed,
-    MergedZeroed,
-    LackingZeroedByRefusal,
-    LackingZeroedByUnit,
-    LackingOneMore,
-    LackingNone,
-    LackingPastTheRoom,
-    CpWaitsForItsAddress,
-    WholeUnitAwaited,
-    WordAskedWithTheHead,
-    RunLacksOne,
-    RunLacksNone,
-    LimitRunLacksOne,
-    ReportLeft,
-    ReportOneMore,
-    ControlModulo,
-    OpenModulo,
-    OpenAnyNumber,
-    PrimitiveModulo,
-    FormatModulo,
-    LeftModulo,
-    DrawNormalisedByRefusal,
-    DrawNormalisedByWrite,
-    DrawNormalisedByFeed,
-    DrawNormalisedByEmptyRun,
-    DrawLeftStale,
-    StaleDrawTested,
-    ControlReadMasked,
-    ControlWrittenWhole,
-    MarksCleared,
-    FeedStoresReadPointer,
-    FeedMovesWhenRefused,
-    FirstStretchFromStart,
-    SecondStretchFromWritePointer,
-    StretchesSwapped,
-    PlaceAndLengthSwapped,
-    VertexRestCleared,
-    VertexCopiedByWaiting,
-    XfWordBeforeIt,
-    StatusWithoutDraw,
-    MaskResetByItself,
-    AddressWithoutIndex,
-    XfLongerAccepted,
-    LimitModulo,
-    AttributeModulo,
-    NanKept,
-    RawNanLost,
-    ShortOutputPartly,
-    ShortPatchPartly,
-    TailCleared,
-    LentWordsNotCounted,
-    KindModulo,
-    MaskRegisterLast,
-    MergeOfFirstWithin,
-    MergedNumberOfA,
-    NormalU8Of6Bits,
-    NormalS8Of7Bits,
-    NormalU16Of14Bits,
-    NormalS16Of15Bits,
-    NormalUnsignedAsSigned,
-    NormalFractionByBit30,
-    NormalBytesByBit30,
-    NormalOfThreeWhole,
-    NormalOfNineWhole,
-    NormalF32Scaled,
-    PositionLikeNormal,
-    OldMetricsAccepted,
-    OldMetricsAcceptedByRun,
-    MetricsRefused,
-    MetricsOfTwoBytes,
-    MetricsToldAsOld,
-    OldMetricsWritten,
-    OldMetricsToWriteGives6,
-    MetricsWrittenAsOld,
-    LookTakes,
-    LookMovesThePointer,
-    LookStoresXfWords,
-    LookCopiesVertex,
-    LookClearsStaleDraw,
-    LookShowsNoOperation,
-    LookTellsAnotherLength,
-    LookWithoutAddress,
-    LookPastTheDraw,
-    LookWithout2,
-    LookWithout3,
-    LookWithout4And5,
-    LookGives4Before2,
-    LookAwaitsTheUnit,
-    LookLacksOne,
-    LookUnitZeroed,
-    LookLackingZeroed,
-    TakeNamesAnother,
-    KeptOverVcd0,
-    KeptOverVcd1,
-    KeptOverVat0,
-    KeptOverVat1,
-    KeptOverVat2,
-    VcdForgetsFormat0Alone,
-    ZerosOneShort,
-    ZerosOfBlocksOneShort,
-    LastOf8TakenAsZero,
-    LastOf128TakenAsZero,
-    ZerosPastTheLimit,
-    FirstVertexCopied,
-    LongerVertexLost,
-    VerticesPastTheLimit,
-    VertexPastTheLimitOfItsHead,
-    VertexOverTheEndPartly,
-    EmptyDrawLeftOpen,
-    DrawLostAtTheLimit,
-    DrawLostByWaiting,
-    MaskKeptByRun,
-    XfOnePastTaken,
-    UnlistedCpLoadTaken,
-    UnitOverTheEndAwaited,
-    LackingOfTheStretch,
-    PointerLeftAtTheEnd,
-    ReadingWithout2,
-    ReadingXfLengthLast,
-    ReadingBpModulo,
-    ReadingBasesModulo,
-    ReadingStridesModulo,
-    ReadingStreamCountModulo,
-    ReadingTailPassed,
-    ReadingCutStreamTaken,
-    ReadingMaskTested,
-    ReadingVatTested,
-    ReadingXfTested,
-    ReadingCutNumberWide,
-    ReadingCutCountWrong,
-    ReadingShortBeforeCount,
-    ReadingNoStreamRefused,
-    ReadingLongestRefused,
-    ReadingShortAsLong,
-    ReadingLeavesTheDraw,
-    ReadingLeavesStaleWords,
-    ReadingFreshWindow,
-    ReadingFreshControl,
-    ReadingMasksControl,
-    ReadingVatByGroup,
-    ReadingMaskReset,
-    ReadingLastStrideLeft,
-    ReadingXfFromCount,
-    ReadingTellsPlace0,
-    ReadingTellsTheFile,
-    ReadingZeroesStream,
-    ReadingOnePass,
-    ReadingStoresRegisters,
-    ReadingHeadFirst,
-    HeadWithout2,
-    HeadTestsTheRest,
-    HeadOfJustItsBytes,
-    HeadCutNumberWide,
-    HeadWithoutStreamCount,
-    HeadLeavesTheDraw,
-    HeadMasksControl,
-    HeadXfWordLittleEndian,
-    HeadTellsTheRest,
-    HeadZeroesLength,
-    RestModulo32,
-    RestModulo16,
-    RestShortAsLong,
-    RestLongPassed,
-    RestNoStreamRefused,
-    RestTestsTheCount,
-    FindingNumberOfCut,
-    FindingEndOfNumber,
-    FindingLastByte,
-    FindingNumbers,
-    FindingTheLength,
-    FindingNoStreamCount,
-    FindingCutBeforeWide,
-    WritingBpModulo,
-    WritingBasesModulo,
-    WritingStridesModulo,
-    WritingTestsTheWindow,
-    WritingTestsTheControl,
-    WritingTestsTheDraw,
-    WritingTestsTheVat,
-    Writing2Before1,
-    Writing20Before2,
-    Writing16Before20,
-    WritingNeedsOneMore,
-    WritingLongestRefused,
-    WritingCountOneMore,
-    WritingXfLittleEndian,
-    WritingStreamShifted,
-    WritingMaskReset,
-    WritingVatByGroup,
-    WritingTailCleared,
-    WritingHeadBefore16,
-    WritingZeroesOutput,
-    WritingZeroesWritten,
-    WritingClosesTheDraw,
-    WritingMasksTheState,
-    WritingClearsXfWords,
-    HeadWritingModulo,
-    HeadWritingNeedsTheStream,
-    HeadWritingTellsTheFile,
-}
 
 const VERTEX: u32 = 0x01;
 const LOAD_CP: u8 = 0x08;
@@ -505,6 +281,9 @@ impl Side for Faulty {
     }
 
     fn read_register(&self, state: &StateWords, offset: u16, value: &mut u32) -> u32 {
+        if mebibyte::makes(self.0) {
+            return mebibyte::read_register(self.0, state, offset, value);
+        }
         let answer = Twin.read_register(state, offset, value);
         match self.0 {
             Fault::ValueZeroed if answer != DONE => *value = 0,
@@ -526,6 +305,9 @@ impl Side for Faulty {
     }
 
     fn feed(&self, state: &mut StateWords, ring: &mut [u8], bytes: &[u8]) -> u32 {
+        if mebibyte::makes(self.0) {
+            return mebibyte::feed(self.0, state, ring, bytes);
+        }
         let before = state[WRITE_POINTER];
         let held = ring.to_vec();
         let answer = Twin.feed(state, ring, bytes);
@@ -556,6 +338,9 @@ impl Side for Faulty {
         unit: &mut UnitWords,
         lacking: &mut u32,
     ) -> u32 {
+        if mebibyte::makes(self.0) {
+            return mebibyte::look(self.0, state, ring, xf, vertex, unit, lacking);
+        }
         let mut look = looks::Look {
             state,
             ring,
@@ -576,6 +361,9 @@ impl Side for Faulty {
         unit: &mut UnitWords,
         lacking: &mut u32,
     ) -> u32 {
+        if mebibyte::makes(self.0) {
+            return mebibyte::take(self.0, state, ring, xf, vertex, unit, lacking);
+        }
         if self.is(Fault::XfLongerAccepted) && xf.len() > 4184 {
             xf = &mut xf[..4184];
         }
@@ -616,8 +404,10 @@ impl Side for Faulty {
         if takes::makes(self.0) {
             return takes::run(self.0, state, ring, xf, vertex, limit, report);
         }
-        let was = *report;
-        let limit = self.seen_limit(limit);
+        if mebibyte::makes(self.0) {
+            return mebibyte::run(self.0, state, ring, xf, vertex, limit, report);
+        }
+        let (was, limit) = (*report, self.seen_limit(limit));
         let mut seen = self.seen(state);
         let answer = Twin.run(&mut seen, ring, xf, vertex, limit, report);
         if report[0] != 0 {
@@ -632,7 +422,7 @@ impl Side for Faulty {
             {
                 take_byte(state);
                 let units = report[0] + 1;
-                let left = limit.min(65_535) - units;
+                let left = limit.min(MOST_UNITS) - units;
                 let answer = self.run(state, ring, xf, vertex, left, report);
                 report[0] += units;
                 return answer;

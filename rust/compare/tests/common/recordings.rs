@@ -6,7 +6,11 @@ use compare::side::{Side, Twin};
 use model::words::{self, StateWords, StreamWords, DONE, STATE_WORDS};
 
 const HEAD: usize = 18_016;
-const LONGEST: usize = 65_535;
+const LONGEST: usize = 1_048_575;
+/// The longest stream until document 02's L9.
+const LONGEST_BEFORE: usize = 65_535;
+const LOW_16: usize = 0xFFFF;
+const LOW_20: usize = 0xF_FFFF;
 const XF_WORDS: usize = 4184;
 const STREAM_COUNT: usize = HEAD - NUMBER_BYTES;
 
@@ -77,12 +81,36 @@ fn seen_file(fault: Fault, file: &[u8]) -> Vec<u8> {
         return seen;
     };
     match fault {
-        Fault::ReadingStreamCountModulo => put(&mut seen, STREAM_COUNT, count as u32 & 0xFFFF),
+        Fault::ReadingStreamCountModulo => {
+            put(&mut seen, STREAM_COUNT, (count & LOW_16) as u32);
+        }
+        Fault::ReadingStreamCountModulo20 => {
+            put(&mut seen, STREAM_COUNT, (count & LOW_20) as u32);
+        }
+        Fault::ReadingOneLonger if count == LONGEST + 1 && rest == count => {
+            put(&mut seen, STREAM_COUNT, LONGEST as u32);
+            seen.truncate(HEAD + LONGEST);
+        }
         Fault::ReadingTailPassed if rest > count => seen.truncate(HEAD + count),
         Fault::ReadingCutStreamTaken if rest < count && count <= LONGEST => {
             put(&mut seen, STREAM_COUNT, rest as u32);
         }
         _ => {}
+    }
+    seen
+}
+
+/// Whether a file with a good head tells a stream longer than any before.
+fn is_long(file: &[u8]) -> bool {
+    rest_and_count(file).is_some_and(|(_, count)| count > LONGEST_BEFORE)
+}
+
+/// The head as a side sees it that lets a stream be one byte longer.
+fn seen_head(fault: Fault, head: &[u8]) -> Vec<u8> {
+    let mut seen = head.to_vec();
+    let longer = rest_and_count(head).is_some_and(|(_, count)| count == LONGEST + 1);
+    if fault == Fault::HeadOneLonger && longer {
+        put(&mut seen, STREAM_COUNT, LONGEST as u32);
     }
     seen
 }
@@ -116,6 +144,7 @@ fn reading_answer(fault: Fault, file: &[u8], answer: u32) -> u32 {
         (Fault::ReadingNoStreamRefused, DONE) if file.len() == HEAD => 22,
         (Fault::ReadingLongestRefused, DONE) if file.len() == HEAD + LONGEST => 20,
         (Fault::ReadingShortAsLong, 22) if in_head == HEAD => 23,
+        (Fault::OldStreamOfReading, _) if in_head == HEAD && is_long(file) => 20,
         _ => answer,
     }
 }
@@ -197,6 +226,7 @@ impl Reading<'_> {
         match fault {
             Fault::ReadingTellsPlace0 if answer == DONE => stream[0] = 0,
             Fault::ReadingTellsTheFile if answer == DONE => stream[1] += HEAD as u32,
+            Fault::ReadingTellsLengthModulo if answer == DONE => stream[1] &= LOW_16 as u32,
             Fault::ReadingZeroesStream if answer != DONE => *stream = [0; 2],
             _ => {}
         }
@@ -209,13 +239,15 @@ impl Reading<'_> {
         if fault == Fault::HeadWithout2 {
             xf.resize(XF_WORDS, 0);
         }
-        let read = Twin.read_recording_head(&mut state, self.file, &mut xf, &mut told);
+        let head = seen_head(fault, self.file);
+        let read = Twin.read_recording_head(&mut state, &head, &mut xf, &mut told);
         let rest = self.file.len().saturating_sub(HEAD);
         let answer = match fault {
             Fault::HeadTestsTheRest if read == DONE => words::check_recording_rest(told, rest),
             Fault::HeadOfJustItsBytes if read == DONE && rest != 0 => 23,
             Fault::HeadCutNumberWide if read == 22 && cut_is_wrong(self.file, false) => 21,
             Fault::HeadWithoutStreamCount if read == 20 && self.fault_at() == STREAM_COUNT => 22,
+            Fault::OldStreamOfHead if read == DONE && is_long(self.file) => 20,
             _ => read,
         };
         if answer == DONE {
@@ -225,6 +257,7 @@ impl Reading<'_> {
         }
         match fault {
             Fault::HeadTellsTheRest if answer == DONE => *length = rest as u32,
+            Fault::HeadTellsLengthModulo if answer == DONE => *length &= LOW_16 as u32,
             Fault::HeadZeroesLength if answer != DONE => *length = 0,
             _ => {}
         }
@@ -276,10 +309,15 @@ impl Reading<'_> {
 pub fn check_rest(fault: Fault, length: u32, rest: usize) -> u32 {
     let rest = match fault {
         Fault::RestModulo32 => rest & 0xFFFF_FFFF,
-        Fault::RestModulo16 => rest & 0xFFFF,
+        Fault::RestModulo16 => rest & LOW_16,
+        Fault::RestModulo20 => rest & LOW_20,
         _ => rest,
     };
-    let answer = Twin.check_recording_rest(length, rest);
+    let seen = match fault {
+        Fault::RestLengthModulo => length & LOW_16 as u32,
+        _ => length,
+    };
+    let answer = Twin.check_recording_rest(seen, rest);
     match (fault, answer) {
         (Fault::RestShortAsLong, 22) => 23,
         (Fault::RestLongPassed, 23) => DONE,
@@ -300,6 +338,12 @@ pub fn find_fault(fault: Fault, head: &[u8]) -> u32 {
         (Fault::FindingNumbers, _) => byte / 4,
         (Fault::FindingTheLength, Found::Nothing) => head.len() as u32,
         (Fault::FindingNoStreamCount, Found::Wrong(STREAM_SECTION)) => HEAD as u32,
+        (Fault::OldStreamOfFinding, Found::Nothing) if is_long(head) => STREAM_COUNT as u32,
+        (Fault::FindingOneLonger, Found::Wrong(STREAM_SECTION))
+            if number(head, STREAM_COUNT) as usize == LONGEST + 1 =>
+        {
+            HEAD as u32
+        }
         (Fault::FindingCutBeforeWide, Found::Wrong(_)) if head.len() < HEAD => head.len() as u32,
         _ => byte,
     }
@@ -332,6 +376,11 @@ impl Writing<'_> {
         matches!(self.behind, Behind::Count(_))
     }
 
+    /// Whether the stream is longer than any before.
+    fn is_long(&self) -> bool {
+        self.length() > LONGEST_BEFORE
+    }
+
     /// The bytes that the output needs.
     fn needed(&self) -> usize {
         match self.behind {
@@ -345,12 +394,16 @@ impl Writing<'_> {
         let (mut output, mut written) = (self.output.to_vec(), *self.written);
         let mut state = self.seen(fault);
         let wrote = match self.behind {
-            Behind::Stream(stream) => {
+            Behind::Stream(mut stream) => {
+                if fault == Fault::WritingOneLonger && stream.len() == LONGEST + 1 {
+                    stream = &stream[..LONGEST];
+                }
                 Twin.write_recording(&mut state, self.xf, stream, &mut output, &mut written)
             }
             Behind::Count(length) => {
                 let length = match fault {
                     Fault::HeadWritingModulo => length & 0xFFFF_FFFF,
+                    Fault::HeadWritingOneLonger if length == LONGEST + 1 => LONGEST,
                     _ => length,
                 };
                 Twin.write_recording_head(&mut state, self.xf, length, &mut output, &mut written)
@@ -400,6 +453,8 @@ impl Writing<'_> {
             (Fault::Writing16Before20, 20) if room < self.needed() => 16,
             (Fault::WritingNeedsOneMore, DONE) if room == self.needed() => 16,
             (Fault::WritingLongestRefused, DONE) if self.length() == LONGEST => 20,
+            (Fault::OldStreamOfWriting, DONE | 16) if !self.of_head() && self.is_long() => 20,
+            (Fault::OldStreamOfHeadWriting, DONE | 16) if self.of_head() && self.is_long() => 20,
             (Fault::HeadWritingNeedsTheStream, DONE)
                 if self.of_head() && room < HEAD + self.length() =>
             {
@@ -416,6 +471,13 @@ impl Writing<'_> {
             Fault::WritingXfLittleEndian => file[SECTIONS[XF_SECTION].from..][..4].reverse(),
             Fault::WritingStreamShifted if file.len() > HEAD => file[HEAD..].rotate_left(1),
             Fault::WritingMaskReset => put(file, 4 + 4 * 0xFE, 0xFF_FFFF),
+            Fault::WritingCountModulo => {
+                put(file, STREAM_COUNT, (self.length() & LOW_16) as u32);
+            }
+            Fault::WritingStreamModulo if file.len() > HEAD => {
+                let not_copied = HEAD + (self.length() & LOW_16)..file.len();
+                file[not_copied.clone()].copy_from_slice(&self.output[not_copied]);
+            }
             _ => {}
         }
     }

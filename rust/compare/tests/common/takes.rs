@@ -7,14 +7,15 @@ use super::{
 };
 use compare::side::{Side, Twin};
 use model::words::{self, FormatWords, ReportWords, StateWords, UnitWords, DONE, WAITING};
+use model::MOST_UNITS;
 
 const DRAW: u32 = 0x80;
-const MOST_UNITS: u32 = 65_535;
 const XF_WORDS: usize = 4184;
 
 /// Whether a fault is one of these runs, or none.
 pub fn makes(fault: Fault) -> bool {
-    fault == Fault::OnlyTakes || fault as u32 >= Fault::KeptOverVcd0 as u32
+    let these = Fault::KeptOverVcd0 as u32..=Fault::PointerLeftAtTheEnd as u32;
+    fault == Fault::OnlyTakes || these.contains(&(fault as u32))
 }
 
 pub fn run(
@@ -34,6 +35,7 @@ pub fn run(
     let before = vertex.to_vec();
     let mut takes = Takes {
         fault,
+        held: before.clone(),
         before,
         state,
         ring,
@@ -55,8 +57,9 @@ pub fn run(
 
 struct Takes<'a> {
     fault: Fault,
-    /// The vertex buffer before this run.
+    /// The vertex buffer before this run, and before the last take.
     before: Vec<u8>,
+    held: Vec<u8>,
     state: &'a mut StateWords,
     ring: &'a [u8],
     xf: &'a mut [u32],
@@ -207,7 +210,8 @@ impl Takes<'_> {
                 return WAITING;
             }
         }
-        let (was, held) = (*self.state, self.vertex.to_vec());
+        let was = *self.state;
+        self.held.copy_from_slice(self.vertex);
         let drawn = self.draw_as_kept();
         let mut unit = [0; 6];
         let answer = Twin.take(
@@ -222,7 +226,7 @@ impl Takes<'_> {
             self.keep(format, &was, answer);
         }
         if answer == DONE {
-            self.after(&was, &held, unit);
+            self.after(&was, unit);
         }
         answer
     }
@@ -274,7 +278,7 @@ impl Takes<'_> {
     }
 
     /// What is wrong after a unit.
-    fn after(&mut self, was: &StateWords, held: &[u8], unit: UnitWords) {
+    fn after(&mut self, was: &StateWords, unit: UnitWords) {
         let [kind, a, .., length] = unit;
         self.last = Some(unit);
         match kind {
@@ -282,7 +286,7 @@ impl Takes<'_> {
             _ => self.end_zeros(),
         }
         match kind {
-            VERTEX => self.after_vertex(was, held, length as usize),
+            VERTEX => self.after_vertex(was, length as usize),
             DRAW => self.vertices = 0,
             LOAD_BP if self.is(Fault::MaskKeptByRun) && a != MASK_REGISTER => {
                 self.state[MASK_WORD] = was[MASK_WORD];
@@ -302,16 +306,18 @@ impl Takes<'_> {
         }
     }
 
-    fn after_vertex(&mut self, was: &StateWords, held: &[u8], length: usize) {
+    fn after_vertex(&mut self, was: &StateWords, length: usize) {
         self.vertices += 1;
         let straight = (was[END] - was[READ_POINTER]) as usize;
         match self.fault {
-            Fault::FirstVertexCopied if self.vertices > 1 => self.vertex.copy_from_slice(held),
+            Fault::FirstVertexCopied if self.vertices > 1 => {
+                self.vertex.copy_from_slice(&self.held);
+            }
             Fault::LongerVertexLost => {
                 self.vertex[length..].copy_from_slice(&self.before[length..]);
             }
             Fault::VertexOverTheEndPartly if straight < length => {
-                self.vertex[straight..].copy_from_slice(&held[straight..]);
+                self.vertex[straight..].copy_from_slice(&self.held[straight..]);
             }
             _ => {}
         }
