@@ -27,7 +27,8 @@ enum {
     CP = 11, VCD_0 = 13, VCD_1 = 14, VAT = 15, BASES = 39, STRIDES = 55, BP = 71,
     STATE_WORDS = 327
 };
-enum { BP_MASK = 0xFE, XF_WORDS = 4184, LONGEST = 129, MOST_UNITS = 65535, WAITING = 255 };
+enum { BP_MASK = 0xFE, XF_WORDS = 4184, LONGEST = 129, WAITING = 255 };
+enum { SMALLEST_RING = 256, LARGEST_RING = 1048576, MOST_UNITS = 1048575 };
 
 /*
  * Where the number of a CP load is kept, by its address, counted from state word 11:
@@ -135,11 +136,12 @@ INLINE size_t zeros(const u8 *p, size_t n) {
 
 /* ---- The window and the tests 1 to 5 ---- */
 
-/* Start and size are multiples of 32, the size is 256 to 65,536 and the ring's length, and
- * both pointers are inside. A difference that is below 0 counts as a large number. */
+/* Start and size are multiples of 32, the size is 256 to 1,048,576 and the ring's length,
+ * and both pointers are inside. A difference that is below 0 counts as a large number. */
 INLINE int window_ok(const u32 *s, size_t ring_len) {
     u32 start = s[START], end = s[END], size = end - start;
-    return end > start && size - 256 <= 65536 - 256 && ((start | size) & 31) == 0
+    return end > start && size - SMALLEST_RING <= LARGEST_RING - SMALLEST_RING
+        && ((start | size) & 31) == 0
         && s[WRITE] - start < size && s[READ] - start < size && ring_len == size;
 }
 

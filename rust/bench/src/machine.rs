@@ -3,26 +3,35 @@
 use model::words::{command_words, state_words, StateWords, UnitWords, STATE_WORDS, WAITING};
 use model::{Answer, End, Memory, Refusal, State, View, XF_WORDS};
 
+/// The bytes of a ring, but in the tables of rings of other sizes.
 pub const RING: usize = 65_536;
 const VERTEX: usize = 129;
+/// The state words of the pointers.
+const WRITE: usize = 4;
+const READ: usize = 5;
 
 /// Ring, XF words and vertex buffer. Aligned, so that no implementation has the
 /// luckier places.
 #[derive(Clone, PartialEq, Eq)]
 #[repr(C, align(4096))]
-pub struct Lent {
-    pub ring: [u8; RING],
+pub struct Lent<const N: usize> {
+    pub ring: [u8; N],
     pub xf: [u32; XF_WORDS],
     pub vertex: [u8; VERTEX],
 }
 
-impl Lent {
-    pub fn new() -> Box<Lent> {
+impl<const N: usize> Lent<N> {
+    pub fn new() -> Box<Lent<N>> {
         Box::new(Lent {
-            ring: [0xCC; RING],
+            ring: [0xCC; N],
             xf: [0xAAAA_AAAA; XF_WORDS],
             vertex: [0x55; VERTEX],
         })
+    }
+
+    fn view(&self) -> View<'_> {
+        let Lent { ring, xf, vertex } = self;
+        View { ring, xf, vertex }
     }
 }
 
@@ -31,6 +40,8 @@ impl Lent {
 pub trait Machine {
     /// The answer of a look or a take in the implementation's own form.
     type Told;
+    /// The bytes of its ring.
+    const RING: usize;
 
     fn fresh() -> Self;
     fn read_register(&self, offset: u16) -> [u32; 2];
@@ -48,7 +59,7 @@ pub trait Machine {
     /// The state as it was kept. What is lent stays.
     fn reset(&mut self);
     fn state_words(&self) -> StateWords;
-    fn lent(&self) -> &Lent;
+    fn lent(&self) -> View<'_>;
 }
 
 /// Makes a machine of calls over state words.
@@ -56,17 +67,18 @@ macro_rules! over_words {
     ($(#[$about:meta])* $machine:ident, $calls:ident) => {
         $(#[$about])*
         #[repr(align(64))]
-        pub struct $machine {
+        pub struct $machine<const N: usize> {
             state: StateWords,
             saved: StateWords,
-            lent: Box<Lent>,
+            lent: Box<Lent<N>>,
         }
 
-        impl Machine for $machine {
+        impl<const N: usize> Machine for $machine<N> {
             /// The answer number, the unit, the bytes lacking; 0 where they are not told.
             type Told = (u32, UnitWords, u32);
+            const RING: usize = N;
 
-            fn fresh() -> $machine {
+            fn fresh() -> $machine<N> {
                 let mut state = [0; STATE_WORDS];
                 $calls::fresh(&mut state);
                 $machine {
@@ -132,8 +144,8 @@ macro_rules! over_words {
                 self.state
             }
 
-            fn lent(&self) -> &Lent {
-                &self.lent
+            fn lent(&self) -> View<'_> {
+                self.lent.view()
             }
         }
     };
@@ -145,6 +157,14 @@ over_words!(
     proved
 );
 
+impl<const N: usize> Proved<N> {
+    /// Empties the ring, as a caller can who keeps the state: the read pointer becomes
+    /// the write pointer.
+    pub fn drop_pending(&mut self) {
+        self.state[READ] = self.state[WRITE];
+    }
+}
+
 #[cfg(hand_c)]
 over_words!(
     /// The hand-tuned C.
@@ -154,13 +174,13 @@ over_words!(
 
 /// The implementation in plain Rust.
 #[repr(align(64))]
-pub struct Plain {
+pub struct Plain<const N: usize> {
     state: State,
     saved: State,
-    lent: Box<Lent>,
+    lent: Box<Lent<N>>,
 }
 
-fn memory(lent: &mut Lent) -> Memory<'_> {
+fn memory<const N: usize>(lent: &mut Lent<N>) -> Memory<'_> {
     Memory {
         ring: &lent.ring,
         xf: &mut lent.xf,
@@ -176,10 +196,11 @@ fn number<T>(answer: &Result<T, Refusal>) -> u32 {
     }
 }
 
-impl Machine for Plain {
+impl<const N: usize> Machine for Plain<N> {
     type Told = Answer;
+    const RING: usize = N;
 
-    fn fresh() -> Plain {
+    fn fresh() -> Plain<N> {
         Plain {
             state: State::fresh(),
             saved: State::fresh(),
@@ -201,8 +222,7 @@ impl Machine for Plain {
     }
 
     fn look(&self) -> Answer {
-        let Lent { ring, xf, vertex } = &*self.lent;
-        self.state.look(&View { ring, xf, vertex })
+        self.state.look(&self.lent.view())
     }
 
     fn take(&mut self) -> Answer {
@@ -245,7 +265,7 @@ impl Machine for Plain {
         state_words(&self.state)
     }
 
-    fn lent(&self) -> &Lent {
-        &self.lent
+    fn lent(&self) -> View<'_> {
+        self.lent.view()
     }
 }

@@ -1,6 +1,7 @@
 //! Times the proved library beside hand-tuned C and beside the implementation in plain
-//! Rust, and its feed beside a bare copy and beside a feed byte after byte, and prints
-//! markdown tables. Nothing is timed before what is compared was the same.
+//! Rust, also in rings of several sizes, and its feed beside a bare copy and beside a feed
+//! byte after byte, and prints markdown tables. Nothing is timed before what is compared
+//! was the same.
 #![forbid(unsafe_code)]
 
 mod arguments;
@@ -9,6 +10,7 @@ mod formats;
 mod machine;
 mod player;
 mod random;
+mod rings;
 mod rows;
 mod streams;
 mod tables;
@@ -18,9 +20,10 @@ mod which;
 
 use arguments::{parse, Wish, USAGE};
 use feeds::{feeds, Feeds, SIZES};
-use rows::{lengths, rows, thousands, Lengths, Made, MadeLengths, Row};
+use rings::{rings, Rings};
+use rows::{lengths, rows, thousands, Lengths, Made, Row, Several};
 use std::process::ExitCode;
-use tables::{print_feeds, print_lengths, print_preface, print_rows};
+use tables::{print_feeds, print_lengths, print_preface, print_rings, print_rows};
 use timing::{Plan, Side};
 use which::Which;
 
@@ -48,34 +51,53 @@ fn differ(what: &str) -> ExitCode {
     ExitCode::FAILURE
 }
 
-/// The rows of the three tables, all compared.
+/// The rows of the four tables, all compared.
 struct Tables {
     rows: Vec<(Row, Made)>,
-    lengths: Vec<(Lengths, MadeLengths)>,
+    lengths: Vec<(Lengths, Several)>,
     feeds: Vec<Feeds>,
+    rings: Vec<(Rings, Several)>,
 }
 
-/// Those whose name holds the text. The names of the second and third table are as
-/// "run of BP loads" and "feed of 64 bytes".
+impl Tables {
+    fn is_empty(&self) -> bool {
+        let Tables {
+            rows,
+            lengths,
+            feeds,
+            rings,
+        } = self;
+        rows.is_empty() && lengths.is_empty() && feeds.is_empty() && rings.is_empty()
+    }
+}
+
+/// Those whose name holds the text. The names of the other tables are as "run of BP loads",
+/// "feed of 64 bytes" and "rings: BP loads, one run of a full ring".
 fn compared(only: &str) -> Result<Tables, String> {
     let rows = rows().into_iter().filter(|row| row.name.contains(only));
     let named = |stream: &Lengths| format!("run of {}", stream.name).contains(only);
     let lengths = lengths().into_iter().filter(named);
-    let fed = |bytes: &usize| {
-        let name = format!("feed of {} bytes", thousands(*bytes as u64));
+    let fed = |&(_, bytes): &(usize, usize)| {
+        let name = format!("feed of {} bytes", thousands(bytes as u64));
         name.contains(only)
     };
-    let sizes: Vec<usize> = SIZES.into_iter().filter(fed).collect();
+    let sizes: Vec<(usize, usize)> = SIZES.into_iter().filter(fed).collect();
+    let in_rings = |rings: &Rings| format!("rings: {}", rings.name).contains(only);
+    let rings = rings().into_iter().filter(in_rings);
     let rows: Result<_, String> = rows
         .map(|row| row.make(Which::ALL).map(|made| (row, made)))
         .collect();
     let lengths: Result<_, String> = lengths
         .map(|stream| stream.make().map(|made| (stream, made)))
         .collect();
+    let rings: Result<_, String> = rings
+        .map(|rings| rings.make().map(|made| (rings, made)))
+        .collect();
     Ok(Tables {
         rows: rows?,
         lengths: lengths?,
         feeds: feeds(&sizes)?,
+        rings: rings?,
     })
 }
 
@@ -84,13 +106,14 @@ fn time(plan: &Plan, only: &str) -> ExitCode {
         Ok(tables) => tables,
         Err(what) => return differ(&what),
     };
-    if tables.rows.is_empty() && tables.lengths.is_empty() && tables.feeds.is_empty() {
+    if tables.is_empty() {
         return wrong(&format!("--only: no row's name holds \"{only}\""));
     }
     print_preface(plan);
     print_rows(tables.rows, plan);
     print_lengths(tables.lengths, plan);
     print_feeds(tables.feeds, plan);
+    print_rings(tables.rings, plan);
     ExitCode::SUCCESS
 }
 

@@ -3,18 +3,21 @@
 
 #[cfg(hand_c)]
 use crate::machine::Hand;
-use crate::machine::{Lent, Machine, Plain, Proved, RING};
+use crate::machine::{Machine, Plain, Proved};
 use crate::streams::Stream;
 use crate::timing::{Side, Sides};
 use crate::which::Which;
 use model::words::{StateWords, WAITING};
+use model::MOST_UNITS as LIMIT;
 use std::hint::black_box;
 
-/// The largest limit of a run.
-const LIMIT: u32 = 65_535;
 pub const START: u32 = 0x1000;
-/// Where both pointers begin: a stream that fills the ring wraps.
-pub const POINTER: u32 = START + 40_001;
+
+/// Where both pointers begin in a ring of a size, counted from its start: a stream that
+/// fills the ring wraps. In one of 65,536 bytes it is place 40,001.
+pub const fn place(ring: usize) -> usize {
+    ring * 625 / 1024 + 1
+}
 
 /// What is timed.
 #[derive(Clone)]
@@ -32,6 +35,8 @@ pub enum Work {
     /// The stream in pieces of so many bytes, a feed and a run of each; the
     /// pieces are counted.
     Bursts(Stream, usize),
+    /// The same, but its units are counted.
+    Through(Stream, usize),
 }
 
 /// How a row starts and what it does.
@@ -53,6 +58,7 @@ impl Input {
             | Work::Feeds(_, times)
             | Work::EmptyRuns(times) => u64::from(*times),
             Work::Bursts(stream, size) => stream.bytes.chunks(*size).len() as u64,
+            Work::Through(stream, _) => u64::from(stream.units),
         }
     }
 }
@@ -94,17 +100,25 @@ impl<M: Machine> Side for Player<M> {
             Work::EmptyRuns(times) => repeat(*times, || {
                 black_box(machine.run(black_box(0)));
             }),
-            Work::Bursts(stream, size) => {
-                let bursts = stream.bytes.chunks(*size);
-                let count = bursts.len();
-                for burst in bursts {
-                    black_box(machine.feed(black_box(burst)));
-                    black_box(machine.run(black_box(LIMIT)));
-                }
-                count as u64
+            Work::Bursts(stream, size) => burst(machine, stream, *size),
+            Work::Through(stream, size) => {
+                burst(machine, stream, *size);
+                u64::from(stream.units)
             }
         }
     }
+}
+
+/// A feed and a run of each piece; how many there were.
+#[inline(always)]
+fn burst<M: Machine>(machine: &mut M, stream: &Stream, size: usize) -> u64 {
+    let bursts = stream.bytes.chunks(size);
+    let count = bursts.len();
+    for burst in bursts {
+        black_box(machine.feed(black_box(burst)));
+        black_box(machine.run(black_box(LIMIT)));
+    }
+    count as u64
 }
 
 /// All that can be seen of a machine from its fresh state to the row's end.
@@ -113,7 +127,9 @@ struct Seen {
     answers: Vec<u32>,
     units: u64,
     state: StateWords,
-    lent: Box<Lent>,
+    ring: Vec<u8>,
+    xf: Vec<u32>,
+    vertex: Vec<u8>,
 }
 
 fn write_word<M: Machine>(machine: &mut M, offset: u16, word: u32) -> [u32; 2] {
@@ -127,7 +143,7 @@ fn write_word<M: Machine>(machine: &mut M, offset: u16, word: u32) -> [u32; 2] {
 fn set_up<M: Machine>(input: &Input) -> (M, Vec<u32>) {
     let mut machine = M::fresh();
     let mut answers = vec![machine.write_register(0x002, 1)];
-    for (offset, word) in [(0x20, START), (0x24, START + RING as u32)] {
+    for (offset, word) in [(0x20, START), (0x24, START + M::RING as u32)] {
         answers.extend(write_word(&mut machine, offset, word));
     }
     for (offset, word) in [(0x34, START), (0x38, START)] {
@@ -136,11 +152,13 @@ fn set_up<M: Machine>(input: &Input) -> (M, Vec<u32>) {
     answers.push(machine.feed(&input.preamble.bytes));
     answers.extend(machine.run(LIMIT));
     for offset in [0x34, 0x38] {
-        answers.extend(write_word(&mut machine, offset, POINTER));
+        let pointer = START + place(M::RING) as u32;
+        answers.extend(write_word(&mut machine, offset, pointer));
     }
     answers.push(machine.feed(&input.stream.bytes));
-    answers.extend(machine.read_register(0x000));
-    answers.extend(machine.read_register(0x030));
+    for offset in [0x000, 0x030, 0x032] {
+        answers.extend(machine.read_register(offset));
+    }
     machine.save();
     (machine, answers)
 }
@@ -197,6 +215,10 @@ fn answers_of<M: Machine>(machine: &mut M, work: &Work) -> (Vec<u32>, u64) {
             (runs.concat(), done as u64)
         }
         Work::Bursts(stream, size) => bursts_told(machine, stream, *size),
+        Work::Through(stream, size) => {
+            let (answers, bursts) = bursts_told(machine, stream, *size);
+            (answers, if bursts == 0 { 0 } else { stream.units.into() })
+        }
     }
 }
 
@@ -231,11 +253,14 @@ fn prepare<M: Machine + 'static>(input: &Input) -> (Box<dyn Side>, Seen) {
     let (mut machine, mut answers) = set_up::<M>(input);
     let (more, units) = answers_of(&mut machine, &input.work);
     answers.extend(more);
+    let lent = machine.lent();
     let seen = Seen {
         answers,
         units,
         state: machine.state_words(),
-        lent: Box::new(machine.lent().clone()),
+        ring: lent.ring.to_vec(),
+        xf: lent.xf.to_vec(),
+        vertex: lent.vertex.to_vec(),
     };
     machine.reset();
     let work = input.work.clone();
@@ -247,9 +272,9 @@ fn difference(these: &Seen, those: &Seen) -> Option<String> {
     let parts = [
         ("answers", these.answers == those.answers),
         ("units", these.units == those.units),
-        ("ring", these.lent.ring == those.lent.ring),
-        ("XF words", these.lent.xf == those.lent.xf),
-        ("vertex buffer", these.lent.vertex == those.lent.vertex),
+        ("ring", these.ring == those.ring),
+        ("XF words", these.xf == those.xf),
+        ("vertex buffer", these.vertex == those.vertex),
     ];
     if let Some((part, _)) = parts.iter().find(|part| !part.1) {
         return Some(format!("the {part} differ"));
@@ -259,17 +284,17 @@ fn difference(these: &Seen, those: &Seen) -> Option<String> {
     Some(format!("state word {word} differs"))
 }
 
-/// The sides of a row that are asked for, once all did the same and all that was
-/// planned.
-pub fn sides(input: &Input, which: &[Which]) -> Result<Sides, String> {
+/// The sides of a row that are asked for, with rings of so many bytes, once all did the
+/// same and all that was planned.
+pub fn sides<const N: usize>(input: &Input, which: &[Which]) -> Result<Sides, String> {
     let mut sides: Sides = Vec::new();
     let mut first = None;
     for &which in which {
         let (side, seen) = match which {
-            Which::Proved => prepare::<Proved>(input),
+            Which::Proved => prepare::<Proved<N>>(input),
             #[cfg(hand_c)]
-            Which::C => prepare::<Hand>(input),
-            Which::Rust => prepare::<Plain>(input),
+            Which::C => prepare::<Hand<N>>(input),
+            Which::Rust => prepare::<Plain<N>>(input),
         };
         sides.push(side);
         if seen.units != input.units() {

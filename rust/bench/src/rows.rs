@@ -78,7 +78,7 @@ fn machine_row(
         let input = input();
         Ok(Made {
             count: Some(input.units()),
-            sides: sides(&input, which)?,
+            sides: sides::<RING>(&input, which)?,
         })
     };
     Row {
@@ -102,7 +102,7 @@ fn plain_row(name: &str, per: &'static str, sides: fn(&[Which]) -> Result<Sides,
 }
 
 /// One run of a stream.
-fn run_of(preamble: Stream, stream: Stream) -> Input {
+pub fn run_of(preamble: Stream, stream: Stream) -> Input {
     Input {
         preamble,
         stream,
@@ -111,7 +111,7 @@ fn run_of(preamble: Stream, stream: Stream) -> Input {
 }
 
 /// Work that begins with an empty ring.
-fn from_empty(work: Work) -> Input {
+pub fn from_empty(work: Work) -> Input {
     Input {
         preamble: Stream::default(),
         stream: Stream::default(),
@@ -231,12 +231,22 @@ pub struct Lengths {
     once: fn() -> Stream,
 }
 
-/// The lengths of a stream whose sides were compared.
-pub struct MadeLengths {
-    /// Bytes and units.
-    pub sizes: Vec<(usize, u32)>,
-    /// The sides of each length, one after the other.
+/// Sizes that are timed in turn; the sides of each were compared.
+#[derive(Default)]
+pub struct Several {
+    /// Bytes, of the stream or of the ring, and units.
+    pub sizes: Vec<(usize, u64)>,
+    /// The sides of each size, one after the other.
     pub sides: Sides,
+    /// The size that the others are compared with.
+    pub base: usize,
+}
+
+impl Several {
+    pub fn add(&mut self, size: (usize, u64), sides: Sides) {
+        self.sizes.push(size);
+        self.sides.extend(sides);
+    }
 }
 
 /// The second table: a stream once, four times and sixteen times, so that all
@@ -255,20 +265,19 @@ pub fn lengths() -> [Lengths; 2] {
 }
 
 impl Lengths {
-    pub fn make(&self) -> Result<MadeLengths, String> {
-        let mut made = MadeLengths {
-            sizes: Vec::new(),
-            sides: Vec::new(),
-        };
+    /// All are compared with the shortest.
+    pub fn make(&self) -> Result<Several, String> {
+        let mut made = Several::default();
         let once = (self.once)();
         for times in [1, 4, 16] {
             let stream = repeated(&once, times);
-            let bytes = stream.bytes.len();
-            made.sizes.push((bytes, stream.units));
-            let sides = sides(&run_of(Stream::default(), stream), Which::ALL);
-            let name = self.name;
-            made.sides
-                .extend(sides.map_err(|what| format!("{name} of {bytes} bytes: {what}"))?);
+            let size = (stream.bytes.len(), stream.units.into());
+            let sides = sides::<RING>(&run_of(Stream::default(), stream), Which::ALL);
+            let (name, bytes) = (self.name, size.0);
+            made.add(
+                size,
+                sides.map_err(|what| format!("{name} of {bytes} bytes: {what}"))?,
+            );
         }
         Ok(made)
     }

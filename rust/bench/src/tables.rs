@@ -1,16 +1,17 @@
 //! The tables, in markdown.
 
 use crate::feeds::Feeds;
-use crate::rows::{thousands, Lengths, Made, MadeLengths, Row};
+use crate::rings::Rings;
+use crate::rows::{thousands, Lengths, Made, Row, Several};
 use crate::timing::{clock_cost, difference, in_turn, median, ratio, Plan};
 use crate::which::Which;
 
 pub fn print_preface(plan: &Plan) {
     println!(
-        "Compared before timing, on the input of every row of the first two tables: each answer, the units \
-         done, and the state words, ring, XF words and vertex buffer left; all were the same. Of the third: \
-         every feed was accepted, and the proved feed and the one byte after byte left the same write pointer \
-         and ring."
+        "Compared before timing, on the input of every row of the first, second and fourth table: each answer, \
+         the units done, and the state words, ring, XF words and vertex buffer left; all were the same. Of the \
+         third: every feed was accepted, and the proved feed and the one byte after byte left the same write \
+         pointer and ring."
     );
     println!();
     match hand::COMPILER {
@@ -81,32 +82,44 @@ pub fn print_rows(rows: Vec<(Row, Made)>, plan: &Plan) {
     }
 }
 
-/// The second table. All lengths of a stream are timed in turn, and the last
-/// columns compare each with the shortest.
-pub fn print_lengths(streams: Vec<(Lengths, MadeLengths)>, plan: &Plan) {
-    if streams.is_empty() {
+/// A table of sizes; those of one name are timed in turn, and the last columns compare each
+/// with one of them.
+fn print_several(first: [&str; 3], base: &str, all: Vec<(&str, Several)>, plan: &Plan) {
+    if all.is_empty() {
         return;
     }
-    let first = ["`run` of", "bytes", "units"].map(String::from).to_vec();
+    let first = first.map(String::from).to_vec();
     let last = Which::ALL
         .iter()
-        .map(|which| format!("{}, to the shortest", which.name()))
+        .map(|which| format!("{}, {base}", which.name()))
         .collect();
     print_head(&[first, side_heads(), last].concat(), 1);
-    for (stream, mut made) in streams {
+    for (name, mut made) in all {
         let times = in_turn(&mut made.sides, plan);
-        let lengths = times.chunks(Which::ALL.len());
-        for ((bytes, units), length) in made.sizes.into_iter().zip(lengths) {
-            let first = vec![
-                stream.name.into(),
-                thousands(bytes as u64),
-                thousands(units.into()),
-            ];
-            let grown = length.iter().zip(&times);
-            let last = grown.map(|(side, shortest)| format!("{:.2}", ratio(side, shortest)));
-            print_line(&[first, side_columns(length), last.collect()].concat());
+        let sizes: Vec<_> = times.chunks(Which::ALL.len()).collect();
+        for ((bytes, units), size) in made.sizes.into_iter().zip(&sizes) {
+            let first = vec![name.into(), thousands(bytes as u64), thousands(units)];
+            let grown = size.iter().zip(sizes[made.base]);
+            let last = grown.map(|(side, base)| format!("{:.2}", ratio(side, base)));
+            print_line(&[first, side_columns(size), last.collect()].concat());
         }
     }
+}
+
+/// The second table.
+pub fn print_lengths(streams: Vec<(Lengths, Several)>, plan: &Plan) {
+    let streams = streams.into_iter();
+    let named = streams.map(|(stream, made)| (stream.name, made)).collect();
+    let first = ["`run` of", "bytes", "units"];
+    print_several(first, "to the shortest", named, plan);
+}
+
+/// The fourth table.
+pub fn print_rings(rings: Vec<(Rings, Several)>, plan: &Plan) {
+    let rings = rings.into_iter();
+    let named = rings.map(|(rings, made)| (rings.name, made)).collect();
+    let first = ["per unit of", "ring, bytes", "units"];
+    print_several(first, "to 65,536", named, plan);
 }
 
 /// The third table. The three sides of a size are timed in turn.
@@ -115,6 +128,7 @@ pub fn print_feeds(sizes: Vec<Feeds>, plan: &Plan) {
         return;
     }
     let heads = [
+        "ring, bytes",
         "bytes of a feed",
         "feeds",
         "proved, ns",
@@ -128,6 +142,7 @@ pub fn print_feeds(sizes: Vec<Feeds>, plan: &Plan) {
     for mut size in sizes {
         let times = in_turn(&mut size.sides, plan);
         print_line(&[
+            thousands(size.ring as u64),
             thousands(size.bytes as u64),
             thousands(size.feeds as u64),
             nanoseconds(median(&times[0])),

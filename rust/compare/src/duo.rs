@@ -131,8 +131,8 @@ impl Duo {
             .map(|fault| format!("call {number}, in \"{scenario}\", {fault}"));
         if self.fault.is_none() {
             self.count_course(&calls[0], answers[0]);
+            self.before.follow(&self.worlds[0], call.kind());
         }
-        self.before.copy_from(&self.worlds[0]);
         let [first, _] = calls;
         let look = first.kind() == Kind::Look;
         self.looked = first.told(answers[0]).filter(|_| look);

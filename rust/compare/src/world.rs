@@ -1,5 +1,6 @@
 //! What a caller keeps for one side: the state words and the lent memory.
 
+use crate::call::Kind;
 use crate::random::Random;
 use model::words::{StateWords, STATE_WORDS};
 
@@ -106,6 +107,21 @@ impl World {
         self.ring.clone_from(&other.ring);
         self.xf.clone_from(&other.xf);
         self.vertex.clone_from(&other.vertex);
+    }
+
+    /// The same as another that was this one before a call of a kind which changed no more
+    /// than it may: what stayed is not copied.
+    pub fn follow(&mut self, other: &World, kind: Kind) {
+        self.state = other.state;
+        match kind {
+            Kind::Feed => self.ring.clone_from(&other.ring),
+            Kind::Take | Kind::Run => {
+                self.xf.clone_from(&other.xf);
+                self.vertex.clone_from(&other.vertex);
+            }
+            Kind::ReadRecording | Kind::ReadRecordingHead => self.xf.clone_from(&other.xf),
+            _ => {}
+        }
     }
 }
 
