@@ -10,14 +10,14 @@ usage: bench [--quick] [--only TEXT]
        bench --help
 Times the proved library, hand-tuned C and plain Rust, once what they do was compared.
 Four tables are printed:
-  the first     what a row names, in a ring of 65,536 bytes: one run of a full ring, where
-                it is a kind of units; else a feed, a take, a layout and so on
-  the second    one run of streams of three lengths, in the same ring
-  the third     a feed beside a bare copy and beside storing byte after byte, also feeds
-                that fill rings of 256 bytes to 1 MiB round their end
-  the fourth    the time of a unit in rings of 256 bytes to 1 MiB: one mixed stream of 1 MiB
-                that goes through each ring by feeds and runs, a piece at a time that is 129
-                bytes shorter than the ring; and one run of a full ring
+  the first     in a ring of 65,536 bytes, one run of as many units of a kind as fit;
+                bursts, feeds, takes, looks and runs of limit 0; layouts and decodes
+  the second    in the same ring, one run of streams of three lengths
+  the third     a feed beside a bare copy and beside storing byte after byte, among them
+                feeds that fill rings of 256 bytes to 1 MiB round their end
+  the fourth    the time of a unit in rings of 256 bytes to 1 MiB: the same mixed stream of
+                1 MiB sent through each by feeds and runs of pieces that are 129 bytes
+                shorter than the ring; and one run of as many units of a kind as fit
   --quick       a short run, for trying it out
   --only TEXT   only the rows whose name holds TEXT
   --count ROW SIDE TIMES
