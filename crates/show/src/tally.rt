@@ -102,7 +102,7 @@ pub fn see(tally: Tally, bytes: usize) -> Tally {
     next
 }
 
-// How many bytes the stream still has, as `io::count` takes them.
+// How many bytes the stream still has, as `io::count` takes them: 65,535 where there are more.
 pub fn left(tally: Tally) -> isize {
     if tally.told < tally.seen {
         return 0;
