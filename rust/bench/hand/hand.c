@@ -136,8 +136,9 @@ INLINE size_t zeros(const u8 *p, size_t n) {
 
 /* ---- The window and the tests 1 to 5 ---- */
 
-/* Start and size are multiples of 32, the size is 256 to 1,048,576 and the ring's length,
- * and both pointers are inside. A difference that is below 0 counts as a large number. */
+/* Start and size are multiples of 32, the size is SMALLEST_RING to LARGEST_RING and the
+ * ring's length, and both pointers are inside. A difference that is below 0 counts as a
+ * large number. */
 INLINE int window_ok(const u32 *s, size_t ring_len) {
     u32 start = s[START], end = s[END], size = end - start;
     return end > start && size - SMALLEST_RING <= LARGEST_RING - SMALLEST_RING

@@ -1,13 +1,15 @@
 //! The third table: feeds beside a bare copy of as many bytes, and beside a
 //! feed that stores byte after byte.
 
-use crate::machine::{Lent, Machine, Proved, RING};
+use crate::machine::{Lent, Machine, Proved, RING, WRITE};
 use crate::player::{empty, place, START};
 use crate::random::Random;
 use crate::timing::{Side, Sides};
+use model::LARGEST_RING;
 use std::hint::black_box;
 use std::rc::Rc;
 
+const LARGEST: usize = LARGEST_RING as usize;
 /// The bytes of a ring, and of a feed into it. Feeds of 16 bytes and more go round the
 /// ring's end once in a timed part, or each of them does where it fills the ring.
 pub const SIZES: [(usize, usize); 9] = [
@@ -19,12 +21,10 @@ pub const SIZES: [(usize, usize); 9] = [
     (256, 255),
     (4096, 4095),
     (RING, RING - 1),
-    (1_048_576, 1_048_575),
+    (LARGEST, LARGEST - 1),
 ];
 /// The most feeds of one timed part.
 const MOST: usize = 4096;
-/// The state word of the write pointer.
-const WRITE: usize = 4;
 
 /// Feeds of one size.
 pub struct Feeds {
@@ -183,7 +183,7 @@ pub fn feeds(sizes: &[(usize, usize)]) -> Result<Vec<Feeds>, String> {
         256 => compared::<256>(bytes),
         4096 => compared::<4096>(bytes),
         RING => compared::<RING>(bytes),
-        _ => compared::<1_048_576>(bytes),
+        _ => compared::<LARGEST>(bytes),
     };
     sizes.iter().map(of).collect()
 }

@@ -7,7 +7,7 @@ use model::{Answer, End, Memory, Refusal, State, View, XF_WORDS};
 pub const RING: usize = 65_536;
 const VERTEX: usize = 129;
 /// The state words of the pointers.
-const WRITE: usize = 4;
+pub const WRITE: usize = 4;
 const READ: usize = 5;
 
 /// Ring, XF words and vertex buffer. Aligned, so that no implementation has the

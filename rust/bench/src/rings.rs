@@ -7,10 +7,11 @@ use crate::rows::{from_empty, run_of, Several};
 use crate::streams::{bp_loads, draws, mixed, repeated, Stream};
 use crate::timing::Sides;
 use crate::which::Which;
+use model::LARGEST_RING;
 
 const SMALLEST: usize = 256;
 const PAGE: usize = 4096;
-const LARGEST: usize = 1_048_576;
+const LARGEST: usize = LARGEST_RING as usize;
 /// The bytes of the longest unit, and so more than wait of one that is cut.
 const LONGEST_UNIT: usize = 129;
 

@@ -1,6 +1,7 @@
 //! What a run went through, read off the ring and the registers that it began
 //! with: that which taking many units at once has to heed.
 
+use crate::before::{LARGEST_BEFORE, MOST_BEFORE};
 use crate::world::{word, World};
 use model::words::{DONE, WAITING};
 use model::{layout, CpRegisters, MOST_UNITS};
@@ -89,10 +90,6 @@ pub const CASES: [&str; 21] = [
     MANY_UNITS,
     ALL_UNITS,
 ];
-
-/// The largest ring and the most units of a run until document 02's L9.
-const LARGEST_BEFORE: usize = 65_536;
-const MOST_BEFORE: u32 = 65_535;
 
 impl Mark {
     /// All that runs are to go through.
@@ -253,7 +250,7 @@ impl<'a> Walk<'a> {
     /// Passes units of so many bytes together.
     fn pass(&mut self, units: u32, bytes: usize) {
         let size = self.ring.len();
-        if size > LARGEST_BEFORE && Lie::of(self.at, bytes, size) == Lie::OverTheEnd {
+        if size > LARGEST_BEFORE as usize && Lie::of(self.at, bytes, size) == Lie::OverTheEnd {
             self.case(LARGE_OVER_END);
         }
         self.at = self.place(bytes);
@@ -416,7 +413,7 @@ impl<'a> Walk<'a> {
     /// How much the run did, and why it went no further.
     fn end(&mut self, run: &Run) {
         let pending = run.after.count() as usize;
-        if self.ring.len() > LARGEST_BEFORE {
+        if self.ring.len() > LARGEST_BEFORE as usize {
             self.case(LARGE_RING);
         }
         if run.units > MOST_BEFORE {

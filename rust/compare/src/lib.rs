@@ -3,6 +3,7 @@
 //! all that they leave after every call.
 #![forbid(unsafe_code)]
 
+mod before;
 pub mod call;
 mod course;
 mod difference;

@@ -1,5 +1,6 @@
 //! The places of a recording: what stands where in the file, and where a fault is.
 
+use crate::before::LONGEST_BEFORE;
 use crate::call::{Call, Kind};
 use model::{RECORDING_HEAD_BYTES, XF_WORDS};
 
@@ -33,7 +34,8 @@ const fn section(name: &'static str, from: usize, numbers: usize, holds: Holds) 
     }
 }
 
-/// All numbers of the head, in the file's order.
+/// All numbers of the head, in the file's order. What may stand there is written out and
+/// not taken from the twin, as tests hold both sides to it.
 pub const SECTIONS: [Section; 10] = [
     section("the BP count", 0, 1, Holds::Count(256)),
     section("a BP register", 4, 256, Holds::AtMost(0xFF_FFFF)),
@@ -73,9 +75,6 @@ pub enum Found {
     /// A stream longer than any before document 02's L9, by the call that accepted it.
     Long(Kind),
 }
-
-/// The longest stream until document 02's L9.
-pub const LONGEST_BEFORE: usize = 65_535;
 
 /// The calls that tell or are handed a stream's length.
 const MEET_STREAMS: [Kind; 4] = [

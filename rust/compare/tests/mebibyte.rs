@@ -5,11 +5,12 @@
 //! every call (`Duo`).
 #![forbid(unsafe_code)]
 
-use compare::duo::Duo;
+mod held;
+
 use compare::random::Random;
-use compare::side::{Proved, Twin};
 use compare::world::{word, Lent, USUAL};
-use model::words::{UnitWords, DONE, WAITING};
+use held::Held;
+use model::words::{DONE, WAITING};
 
 /// The largest ring, and the most bytes that it holds.
 const LARGEST: u32 = 1_048_576;
@@ -24,81 +25,31 @@ const PIECE: usize = 65_536;
 /// The highest start that the largest ring can have: it ends at FFFFFFE0.
 const HIGHEST: u32 = 0xFFEF_FFE0;
 
+/// The first of the state words that a recording keeps, and its XF words.
+const CP: usize = 11;
+const XF_WORDS: usize = 4184;
+
 const INVALID: u32 = 1;
 const TOO_LONG: u32 = 11;
 const WRONG_COUNT: u32 = 20;
 
-/// Both sides, held to what is expected.
-struct Held(Duo);
-
-impl Held {
-    /// An empty ring with both pointers at a place, reading enabled; a position of two
-    /// bytes.
-    fn new(start: u32, size: u32, place: u32) -> Held {
-        let mut duo = Duo::new(Box::new(Proved), Box::new(Twin));
-        duo.fresh();
-        let ring = size as usize;
-        duo.hold(Lent { ring, ..USUAL });
-        for (index, value) in [
-            (word::START, start),
-            (word::END, start + size),
-            (word::WRITE, start + place),
-            (word::READ, start + place),
-            (word::CONTROL, 1),
-            (word::VCD_0, 0x200),
-        ] {
-            duo.poke(index, value);
-        }
-        Held(duo)
+/// An empty ring with both pointers at a place, reading enabled; a position of two bytes.
+fn ring_of(start: u32, size: u32, place: u32) -> Held {
+    let mut held = Held::new();
+    held.0.fresh();
+    let ring = size as usize;
+    held.0.hold(Lent { ring, ..USUAL });
+    for (index, value) in [
+        (word::START, start),
+        (word::END, start + size),
+        (word::WRITE, start + place),
+        (word::READ, start + place),
+        (word::CONTROL, 1),
+        (word::VCD_0, 0x200),
+    ] {
+        held.0.poke(index, value);
     }
-
-    /// Both sides did the same.
-    #[track_caller]
-    fn same(&self) {
-        if let Some(fault) = self.0.fault() {
-            panic!("{fault}");
-        }
-    }
-
-    #[track_caller]
-    fn feeds(&mut self, bytes: &[u8], answer: u32) {
-        let told = self.0.feed(bytes);
-        self.same();
-        assert_eq!(told, answer);
-    }
-
-    #[track_caller]
-    fn reads(&mut self, offset: u16, expected: Result<u32, u32>) {
-        let (answer, value) = self.0.read(offset);
-        self.same();
-        let told = if answer == DONE {
-            Ok(value)
-        } else {
-            Err(answer)
-        };
-        assert_eq!(told, expected, "read of {offset:03X}");
-    }
-
-    #[track_caller]
-    fn runs(&mut self, limit: u32, answer: u32, report: [u32; 2]) {
-        let told = self.0.run(limit);
-        self.same();
-        assert_eq!(told, (answer, report));
-    }
-
-    /// A look shows the unit, and a take does it.
-    #[track_caller]
-    fn takes(&mut self, unit: UnitWords) {
-        for (answer, told, _) in [self.0.look(), self.0.take()] {
-            self.same();
-            assert_eq!((answer, told), (DONE, unit));
-        }
-    }
-
-    #[track_caller]
-    fn holds(&self, index: usize, value: u32) {
-        assert_eq!(self.0.world().state[index], value, "state word {index}");
-    }
+    held
 }
 
 /// A stream whose units are counted as they are put in, and the BP registers and the last
@@ -176,13 +127,13 @@ fn left_by(held: &Held, stream: &Stream) {
 #[test]
 fn sizes_at_the_limit() {
     for size in [65_536, 65_568, 1_048_544, 1_048_576] {
-        let mut held = Held::new(0x1000, size, size - 2);
-        held.reads(0x000, Ok(0b1100));
+        let mut held = ring_of(0x1000, size, size - 2);
+        held.reads(0x000, 0b1100);
         held.feeds(&[], DONE);
         held.feeds(&[0x48; 5], DONE);
-        held.reads(0x000, Ok(0b1000));
-        held.reads(0x030, Ok(5));
-        held.reads(0x032, Ok(0));
+        held.reads(0x000, 0b1000);
+        held.reads(0x030, 5);
+        held.reads(0x032, 0);
         held.runs(0, DONE, [0, 0]);
         held.takes([0x48, 0, 0, 0, 0, 1]);
         held.runs(2, DONE, [2, 0]);
@@ -190,22 +141,20 @@ fn sizes_at_the_limit() {
         held.runs(MOST, WAITING, [2, 1]);
     }
     for size in [1_048_608, 1_048_640, 2_097_152] {
-        let mut held = Held::new(0x1000, size, size - 2);
+        let mut held = ring_of(0x1000, size, size - 2);
         for offset in [0x000, 0x030, 0x032] {
-            held.reads(offset, Err(INVALID));
+            held.read_refused(offset, INVALID);
         }
         held.feeds(&[], INVALID);
         held.feeds(&[0x48], INVALID);
-        assert_eq!((held.0.look().0, held.0.take().0), (INVALID, INVALID));
-        held.same();
+        held.unit_refused(INVALID);
         held.runs(0, INVALID, [0, 0]);
         held.runs(MOST, INVALID, [0, 0]);
         // "other register calls 17 alone"
-        held.reads(0x024, Ok((0x1000 + size) & 0xFFFF));
-        held.reads(0x026, Ok((0x1000 + size) >> 16));
-        assert_eq!(held.0.write(0x026, 0x0010), DONE);
-        assert_eq!(held.0.write(0x024, 0x1000), DONE);
-        held.same();
+        held.reads(0x024, (0x1000 + size) & 0xFFFF);
+        held.reads(0x026, (0x1000 + size) >> 16);
+        held.writes(0x026, 0x0010, DONE);
+        held.writes(0x024, 0x1000, DONE);
         held.holds(word::END, 0x10_1000);
     }
 }
@@ -214,14 +163,14 @@ fn sizes_at_the_limit() {
 #[test]
 fn a_ring_of_another_length() {
     for length in [0, 65_536, 1_048_544, 1_048_575, 1_048_577, 1_048_608] {
-        let mut held = Held::new(0x1000, LARGEST, 0);
+        let mut held = ring_of(0x1000, LARGEST, 0);
         held.0.lend(length, 4184, 129);
         held.feeds(&[], INVALID);
-        assert_eq!((held.0.look().0, held.0.take().0), (INVALID, INVALID));
+        held.unit_refused(INVALID);
         held.runs(0, INVALID, [0, 0]);
         // No ring is lent to these.
-        held.reads(0x000, Ok(0b1100));
-        held.reads(0x030, Ok(0));
+        held.reads(0x000, 0b1100);
+        held.reads(0x030, 0);
     }
 }
 
@@ -237,12 +186,12 @@ fn a_full_ring_is_run() {
         (65_537, 5000),
     ] {
         let stream = Stream::of_length(random, ROOM);
-        let mut held = Held::new(0x1000, LARGEST, place);
+        let mut held = ring_of(0x1000, LARGEST, place);
         for piece in stream.bytes.chunks(piece) {
             held.feeds(piece, DONE);
         }
-        held.reads(0x030, Ok(0xFFFF));
-        held.reads(0x032, Ok(0x000F));
+        held.reads(0x030, 0xFFFF);
+        held.reads(0x032, 0x000F);
         held.feeds(&[0x48], TOO_LONG);
         held.feeds(&stream.bytes, TOO_LONG);
         held.feeds(&[], DONE);
@@ -250,18 +199,18 @@ fn a_full_ring_is_run() {
         held.holds(word::WRITE, 0x1000 + write);
         held.runs(u32::MAX, WAITING, [stream.units, 1]);
         held.holds(word::READ, 0x1000 + write);
-        held.reads(0x000, Ok(0b1100));
+        held.reads(0x000, 0b1100);
         left_by(&held, &stream);
     }
 }
 
-/// The same by runs of limits, each up to a unit of the stream.
+/// The same by several runs, each of which ends by its limit but the last.
 #[test]
 fn a_full_ring_is_run_by_limits() {
     let random = &mut Random::new(2);
     let stream = Stream::of_length(random, ROOM);
     for limit in [65_535, 65_536, 100_000] {
-        let mut held = Held::new(HIGHEST, LARGEST, 999_999);
+        let mut held = ring_of(HIGHEST, LARGEST, 999_999);
         held.feeds(&stream.bytes, DONE);
         let mut left = stream.units;
         while left >= limit {
@@ -284,19 +233,19 @@ fn counts_and_pointers_have_two_halves() {
         (0xF_0000, 0x0000, 0x000F),
         (0xF_FFFF, 0xFFFF, 0x000F),
     ] {
-        let mut held = Held::new(0, LARGEST, 0xA_BCDE);
+        let mut held = ring_of(0, LARGEST, 0xA_BCDE);
         held.feeds(&vec![0x00; count as usize], DONE);
-        held.reads(0x030, Ok(low));
-        held.reads(0x032, Ok(high));
+        held.reads(0x030, low);
+        held.reads(0x032, high);
         let write = (0xA_BCDE + count) % LARGEST;
-        held.reads(0x034, Ok(write & 0xFFFF));
-        held.reads(0x036, Ok(write >> 16));
+        held.reads(0x034, write & 0xFFFF);
+        held.reads(0x036, write >> 16);
         // Where the low half is 0 too, there is a unit.
         held.takes([0x00, 0, 0, 0, 0, 1]);
-        held.reads(0x038, Ok(0xBCDF));
-        held.reads(0x03A, Ok(0x000A));
-        held.reads(0x030, Ok((count - 1) & 0xFFFF));
-        held.reads(0x032, Ok((count - 1) >> 16));
+        held.reads(0x038, 0xBCDF);
+        held.reads(0x03A, 0x000A);
+        held.reads(0x030, (count - 1) & 0xFFFF);
+        held.reads(0x032, (count - 1) >> 16);
     }
 }
 
@@ -311,7 +260,7 @@ fn as_many_units_as_a_run_can_do() {
         (0x48, MOST),
         (0x48, 0x8000_0000),
     ] {
-        let mut held = Held::new(0x1000, LARGEST, 12_345);
+        let mut held = ring_of(0x1000, LARGEST, 12_345);
         held.feeds(&vec![byte; ROOM], DONE);
         held.runs(limit, DONE, [MOST, 0]);
         held.runs(limit, WAITING, [0, 1]);
@@ -323,10 +272,10 @@ fn as_many_units_as_a_run_can_do() {
     }
 }
 
-/// One draw of 65,535 vertices of 15 bytes, and a head that waits, fill a ring.
+/// One draw of 65,535 vertices of 15 bytes each, more than a ring held before.
 #[test]
 fn the_longest_draw() {
-    let mut held = Held::new(HIGHEST, LARGEST, 500_000);
+    let mut held = ring_of(HIGHEST, LARGEST, 500_000);
     // Position of three f32 and a texture of one s16, and a position matrix.
     held.0.poke(word::VCD_0, 0x201);
     held.0.poke(word::VCD_1, 1);
@@ -354,7 +303,7 @@ fn units_over_the_end() {
         for straight in 0..=bytes.len() as u32 {
             let place = (LARGEST - straight) % LARGEST;
             let at = |bytes: u32| start + (place + bytes) % LARGEST;
-            let mut held = Held::new(start, LARGEST, place);
+            let mut held = ring_of(start, LARGEST, place);
             held.feeds(&bytes, DONE);
             held.takes([0x61, 0x41, 0x01_0203, 0, 0, 5]);
             held.holds(word::BP + 0x41, 0x01_0203);
@@ -378,7 +327,7 @@ fn units_over_the_end() {
 #[test]
 fn the_longest_recording() {
     let stream = Stream::of_length(&mut Random::new(4), LONGEST);
-    let mut held = Held::new(0x1000, LARGEST, 3);
+    let mut held = ring_of(0x1000, LARGEST, 3);
     let (answer, file) = held.0.write_recording(&stream.bytes, HEAD + LONGEST);
     let (of_head, head) = held.0.write_recording_head(LONGEST, HEAD);
     held.same();
@@ -387,7 +336,7 @@ fn the_longest_recording() {
     assert!(file[..HEAD] == head && file[HEAD..] == stream.bytes);
     assert_eq!(file[18_012..HEAD], [0, 0x0F, 0xFF, 0xFF]);
     for whole in [true, false] {
-        let mut held = Held::new(HIGHEST, LARGEST, 1_000_003);
+        let mut held = ring_of(HIGHEST, LARGEST, 1_000_003);
         held.0.poke(word::VCD_0, 0);
         if whole {
             let told = held.0.read_recording(&file);
@@ -409,7 +358,7 @@ fn the_longest_recording() {
 /// "the recording's stream to 1,048,575", by every call that meets its length.
 #[test]
 fn a_longer_recording_is_refused() {
-    let mut held = Held::new(0x1000, 256, 0);
+    let mut held = ring_of(0x1000, 256, 0);
     for output in [0, HEAD, HEAD + LONGEST + 1] {
         let (whole, _) = held.0.write_recording(&vec![0x48; LONGEST + 1], output);
         let (head, _) = held.0.write_recording_head(LONGEST + 1, output);
@@ -435,27 +384,49 @@ fn a_longer_recording_is_refused() {
     }
 }
 
+/// A machine with registers by chance, each within its width.
+fn machine_by_chance(random: &mut Random) -> Held {
+    let mut held = ring_of(0x1000, 256, 0);
+    for (from, count, bits) in [
+        (CP, 28, u32::MAX),
+        (word::BASES, 16, 0x3FF_FFFF),
+        (word::STRIDES, 16, 0xFF),
+        (word::BP, 256, 0xFF_FFFF),
+    ] {
+        for index in from..from + count {
+            held.0.poke(index, random.u32() & bits);
+        }
+    }
+    held
+}
+
 /// "Files written before keep their meaning byte by byte": a file with a stream that could
-/// be written before has the same head but for the count, and is read as it was.
+/// be written before has the same head but for the count, and another machine reads from it
+/// all that the first one held.
 #[test]
 fn a_shorter_recording_is_as_before() {
     let random = &mut Random::new(5);
-    let mut held = Held::new(0x1000, 256, 0);
-    for register in 0..256 {
-        held.0.poke(word::BP + register, random.u32() & 0xFF_FFFF);
-    }
-    let head = held.0.write_recording_head(0, HEAD).1;
-    for length in [0, 1, 65_534, 65_535, 65_536, LONGEST] {
+    let mut writer = machine_by_chance(random);
+    let head = writer.0.write_recording_head(0, HEAD).1;
+    for length in [0, 1, 65_534, 65_535] {
         let stream = random.bytes(length);
-        let (answer, file) = held.0.write_recording(&stream, HEAD + length);
+        let (answer, file) = writer.0.write_recording(&stream, HEAD + length);
+        writer.same();
         assert_eq!(answer, DONE);
         assert!(file[..18_012] == head[..18_012]);
         assert_eq!(file[18_012..HEAD], (length as u32).to_be_bytes());
         assert!(file[HEAD..] == stream);
-        let registers = held.0.world().state[11..].to_vec();
-        let told = held.0.read_recording(&file);
-        held.same();
+        let mut reader = machine_by_chance(random);
+        // Other XF words than the first ones, which all machines have.
+        reader.0.hold(USUAL);
+        let (held, before) = (writer.0.world(), reader.0.world());
+        assert!(before.state[CP..] != held.state[CP..]);
+        assert!(before.xf[..XF_WORDS] != held.xf[..XF_WORDS]);
+        let told = reader.0.read_recording(&file);
+        reader.same();
         assert_eq!(told, (DONE, [18_016, length as u32]));
-        assert!(held.0.world().state[11..] == registers);
+        let read = reader.0.world();
+        assert!(read.state[CP..] == held.state[CP..]);
+        assert!(read.xf[..XF_WORDS] == held.xf[..XF_WORDS]);
     }
 }

@@ -1,9 +1,9 @@
-//! Document 02's L1, with the longer stream of its L9, of the proved library and of the twin. Files are made here, number
-//! by number. A file cut at every byte of its head (and read at every seventh), with
-//! every number at its bounds and past them, with two faults, and with streams and rests
-//! of many lengths: its answer and the byte of its fault are those that the place gives.
-//! What is refused changes nothing, a file is its head and its rest, and what is written
-//! and what is read back are the same, both ways.
+//! Document 02's L1, with the longer stream of its L9, of the proved library and of the
+//! twin. Files are made here, number by number. A file cut at every byte of its head (and
+//! read at every seventh), with every number at its bounds and past them, with two faults,
+//! and with streams and rests of many lengths: its answer and the byte of its fault are
+//! those that the place gives. What is refused changes nothing, a file is its head and its
+//! rest, and what is written and what is read back are the same, both ways.
 #![forbid(unsafe_code)]
 
 use compare::random::Random;

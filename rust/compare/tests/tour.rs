@@ -6,77 +6,19 @@
 //! seen after every call (`Duo`).
 #![forbid(unsafe_code)]
 
+mod held;
+
 use compare::call::Patch;
-use compare::duo::Duo;
-use compare::side::{Proved, Twin};
 use compare::world::{word, Lent, USUAL};
-use model::words::{CommandWords, FormatWords, UnitWords, DONE, WAITING};
+use held::Held as Tour;
+use model::words::{CommandWords, FormatWords, DONE, WAITING};
 
 /// A recording up to its stream.
 const HEAD: usize = 18_016;
 /// A stream that is longer than a recording's.
 const LONG: usize = 1_048_576;
 
-/// Both sides, held to what is expected.
-struct Tour(Duo);
-
 impl Tour {
-    fn new() -> Tour {
-        Tour(Duo::new(Box::new(Proved), Box::new(Twin)))
-    }
-
-    /// The two sides did the same.
-    fn same(&self) {
-        if let Some(fault) = self.0.fault() {
-            panic!("{fault}");
-        }
-    }
-
-    #[track_caller]
-    fn reads(&mut self, offset: u16, value: u32) {
-        let told = self.0.read(offset);
-        self.same();
-        assert_eq!(told, (DONE, value), "read of {offset:03X}");
-    }
-
-    #[track_caller]
-    fn read_refused(&mut self, offset: u16, refusal: u32) {
-        let (answer, _) = self.0.read(offset);
-        self.same();
-        assert_eq!(answer, refusal, "read of {offset:03X}");
-    }
-
-    #[track_caller]
-    fn writes(&mut self, offset: u16, value: u16, answer: u32) {
-        let told = self.0.write(offset, value);
-        self.same();
-        assert_eq!(told, answer, "write to {offset:03X}");
-    }
-
-    #[track_caller]
-    fn feeds(&mut self, bytes: &[u8], answer: u32) {
-        let told = self.0.feed(bytes);
-        self.same();
-        assert_eq!(told, answer);
-    }
-
-    /// A look shows the unit.
-    #[track_caller]
-    fn shows(&mut self, unit: UnitWords) {
-        let (answer, told, _) = self.0.look();
-        self.same();
-        assert_eq!((answer, told), (DONE, unit));
-    }
-
-    /// A look shows the unit, and a take does it.
-    #[track_caller]
-    fn takes(&mut self, unit: UnitWords) {
-        self.shows(unit);
-        let (answer, told, _) = self.0.take();
-        self.same();
-        assert_eq!((answer, told), (DONE, unit));
-    }
-
     /// A look and a take wait for so many bytes.
     #[track_caller]
     fn waits(&mut self, bytes: u32) {
@@ -84,22 +26,6 @@ impl Tour {
             self.same();
             assert_eq!((answer, lacking), (WAITING, bytes));
         }
-    }
-
-    /// A look and a take are refused.
-    #[track_caller]
-    fn unit_refused(&mut self, refusal: u32) {
-        for (answer, _, _) in [self.0.look(), self.0.take()] {
-            self.same();
-            assert_eq!(answer, refusal);
-        }
-    }
-
-    #[track_caller]
-    fn runs(&mut self, limit: u32, answer: u32, report: [u32; 2]) {
-        let told = self.0.run(limit);
-        self.same();
-        assert_eq!(told, (answer, report));
     }
 
     #[track_caller]
@@ -250,11 +176,6 @@ impl Tour {
         self.same();
         assert_eq!((whole, head, rest), (refusal, DONE, refusal));
         assert_eq!(fault, 18_016);
-    }
-
-    #[track_caller]
-    fn holds(&self, index: usize, value: u32) {
-        assert_eq!(self.0.world().state[index], value, "state word {index}");
     }
 
     #[track_caller]

@@ -124,7 +124,7 @@ fn units_over_the_end_of_a_ring_far_up() {
         assert_eq!(bench.unit(&[0x61, 0x41, 1, 2, 3]), told(load, 5));
         assert_eq!(bench.state.window.read, start + 5 - straight);
         let mut bench = bench.at(end - 3 - straight);
-        // A position of five bytes: a matrix's and four of two s16.
+        // A vertex of five bytes: a matrix's one, and a position of two s16.
         bench.state.cp.vcd[0] = 0x201;
         bench.state.cp.vat[0][0] = 3 << 1;
         bench.feed(&[0x80, 0, 1, 9, 8, 7, 6, 5]).unwrap();

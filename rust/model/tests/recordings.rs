@@ -1,6 +1,6 @@
 //! Document 02's L1, with the longer stream of its L9: "one file, written and read back:
-//! sections in a fixed order, each after its count". The places of the numbers in the file are worked out by
-//! hand: each section has 4 bytes for its count and 4 for each number.
+//! sections in a fixed order, each after its count". The places of the numbers in the file
+//! are worked out by hand: each section has 4 bytes for its count and 4 for each number.
 #![forbid(unsafe_code)]
 
 mod common;

@@ -1,9 +1,10 @@
 //! Recordings: written, read back, fed and run; files that are damaged; writings
 //! that are refused.
 
+use crate::before::{LARGEST_BEFORE, LONGEST_BEFORE};
 use crate::duo::Duo;
 use crate::random::Random;
-use crate::recording::{Holds, Section, LONGEST_BEFORE, NUMBER_BYTES, SECTIONS};
+use crate::recording::{Holds, Section, NUMBER_BYTES, SECTIONS};
 use crate::stream::{open_ring, open_ring_of, play, scatter_registers, Pace};
 use crate::units::Units;
 use crate::world::{word, Lent, USUAL};
@@ -66,7 +67,7 @@ fn leave_a_draw(duo: &mut Duo, random: &mut Random) {
 fn ring_for(duo: &mut Duo, random: &mut Random, length: Option<usize>) {
     match length {
         None => open_ring(duo, random),
-        Some(length) if length <= LONGEST_BEFORE => open_ring_of(duo, random, 65_536),
+        Some(length) if length <= LONGEST_BEFORE => open_ring_of(duo, random, LARGEST_BEFORE),
         Some(_) => open_ring_of(duo, random, LARGEST_RING),
     };
 }
@@ -225,15 +226,15 @@ fn any_number(random: &mut Random, section: &Section) -> u32 {
 /// Another count of the stream; sometimes there are as many bytes behind it.
 fn count_stream(random: &mut Random, file: &mut Vec<u8>, length: u32) {
     let any = random.word();
-    let longest = LONGEST_STREAM as u32;
+    let (before, longest) = (LONGEST_BEFORE as u32, LONGEST_STREAM as u32);
     let count = random.pick(&[
         length + 1,
         length.saturating_sub(1),
         0x1_0000 + length,
         0x10_0000 + length,
         0x100_0000 + length,
-        65_535,
-        65_536,
+        before,
+        before + 1,
         longest,
         longest + 1,
         longest + 1,
@@ -251,7 +252,8 @@ fn refused_writings(duo: &mut Duo, random: &mut Random) {
     duo.scenario("refused recordings");
     for _ in 0..random.between(4, 8) {
         any_machine(duo, random);
-        let mut length = random.pick(&[0, 1, 100, LONGEST_BEFORE, 65_536, LONGEST_STREAM]);
+        let past = LONGEST_BEFORE + 1;
+        let mut length = random.pick(&[0, 1, 100, LONGEST_BEFORE, past, LONGEST_STREAM]);
         let mut short = 0;
         for _ in 0..random.pick(&[0, 1, 1, 1, 2, 3]) {
             match random.below(4) {
@@ -262,7 +264,7 @@ fn refused_writings(duo: &mut Duo, random: &mut Random) {
             }
         }
         // A stream of a mebibyte is seldom there; its head is written always.
-        if length <= 65_536 || random.once_in(8) {
+        if length <= past || random.once_in(8) {
             let room = HEAD + length - short.min(HEAD + length);
             let stream = random.bytes(length);
             duo.write_recording(&stream, room);
@@ -285,9 +287,10 @@ fn widen_register(duo: &mut Duo, random: &mut Random) {
 /// Streams of any lengths beside counts of any.
 fn rests(duo: &mut Duo, random: &mut Random) {
     duo.scenario("rests of recordings");
+    let (before, longest) = (LONGEST_BEFORE as u32, LONGEST_STREAM as u32);
     for _ in 0..random.between(3, 10) {
         let any = random.word();
-        let length = random.pick(&[0, 1, 700, 65_535, 65_536, 1_048_575, 1_048_576, any]);
+        let length = random.pick(&[0, 1, 700, before, before + 1, longest, longest + 1, any]);
         let (bytes, any) = (length as usize, random.word() as usize);
         let rest = random.pick(&[
             bytes,
@@ -362,8 +365,11 @@ fn every_number(duo: &mut Duo, random: &mut Random, file: &[u8], section: &Secti
     }
 }
 
+/// A stream one byte too long.
+const LONG: usize = LONGEST_STREAM + 1;
+
 /// A stream's count, and the bytes behind the head.
-type Rest = (u32, usize);
+type Rest = (usize, usize);
 
 const RESTS: [Rest; 17] = [
     (9, 9),
@@ -372,29 +378,30 @@ const RESTS: [Rest; 17] = [
     (9, 0),
     (0, 0),
     (0, 1),
-    (65_535, 65_535),
-    (65_535, 65_534),
-    (65_535, 65_536),
-    (65_536, 0),
-    (65_536, 65_536),
-    (65_536, 65_537),
+    (LONGEST_BEFORE, LONGEST_BEFORE),
+    (LONGEST_BEFORE, LONGEST_BEFORE - 1),
+    (LONGEST_BEFORE, LONGEST_BEFORE + 1),
+    (LONGEST_BEFORE + 1, 0),
+    (LONGEST_BEFORE + 1, LONGEST_BEFORE + 1),
+    (LONGEST_BEFORE + 1, LONGEST_BEFORE + 2),
     (0x1_0009, 9),
     (0x10_0009, 9),
     (0x100_0009, 9),
-    (1_048_575, 65_535),
-    (1_048_576, 0),
+    (LONGEST_STREAM, LONGEST_BEFORE),
+    (LONG, 0),
 ];
 
 const LONG_RESTS: [Rest; 4] = [
-    (1_048_575, 1_048_574),
-    (1_048_575, 1_048_575),
-    (1_048_575, 1_048_576),
-    (1_048_576, 1_048_576),
+    (LONGEST_STREAM, LONGEST_STREAM - 1),
+    (LONGEST_STREAM, LONGEST_STREAM),
+    (LONGEST_STREAM, LONG),
+    (LONG, LONG),
 ];
 
 /// What is behind the head: cut, too long, and with a count above the limit.
 fn every_rest(duo: &mut Duo, random: &mut Random, file: &[u8], rests: &[Rest]) {
     for &(count, bytes) in rests {
+        let count = count as u32;
         let mut spoilt = file.to_vec();
         spoilt.resize(HEAD + bytes, 0x48);
         put(&mut spoilt, HEAD - NUMBER_BYTES, count);
@@ -428,11 +435,8 @@ const WRITINGS: [Writing; 8] = [
     (None, 4184, 9, HEAD - 1),
     (None, 4184, 9, HEAD + 20),
     (None, 4184, LONGEST_BEFORE, HEAD + LONGEST_BEFORE),
-    (None, 4184, 65_536, HEAD + 65_536),
+    (None, 4184, LONGEST_BEFORE + 1, HEAD + LONGEST_BEFORE + 1),
 ];
-
-/// One byte too long.
-const LONG: usize = LONGEST_STREAM + 1;
 
 const LONG_WRITINGS: [Writing; 6] = [
     (Some((word::BP + 0xFE, 0x100_0000)), 4183, LONG, 0),
