@@ -4,15 +4,13 @@ use mathlib.Core.List.{List, _++_}
 use Prim.Native.Nat.{ℕ, _<_, _≤_}
 use native.Mathlib.Omega.{arith}
 use lib.Dec.{lit<}
-use lib.ListN.{length, take, drop}
-use lib.Seq.{take-append-seam}
+use lib.ListN.{length, take}
 use borrow.Author.Tests.{eq-eqb}
 use Rattle.refusal.proofs.First.{or-zero}
 use Rattle.octets.specs.BigEndian.{WordsFit}
 use Rattle.command.specs.Look.{xfCount}
 use Rattle.words.specs.State.{cpOf, bpOf}
 use Rattle.answers.specs.Counting.{PutsBytes}
-use Rattle.writer.specs.Write.{placed}
 use Rattle.recording.specs.Format.{recordingOf, headBytes, fileBytes}
 use Rattle.recording.specs.Faults.{streamLimit, headFault, fileFault}
 use Rattle.recording.specs.Answers.{contentRefusal, recordRefusal, headRecordRefusal}
@@ -22,7 +20,7 @@ use Rattle.recording.proofs.Limits.{head-alike, limit-promises}
 use Rattle.recording.proofs.Promises.{recording-promises}
 use Rattle.filing.specs.Calls.{LoadsInto, LoadsFile, LoadsHead, PutsFile, PutsHead}
 use Rattle.duckhammock.specs.Recordings.{ReadAgain, LeftAlone, EarlierPromises}
-use Rattle.duckhammock.proofs.Recorded.{taken, taken-content, written-whole, written-read}
+use Rattle.duckhammock.proofs.Recorded.{taken, put-front, taken-content, written-whole, written-read}
 
 -- ---- read
 
@@ -117,10 +115,7 @@ unfolding headRecordRefusal
 long-stream-in-parts words xf stream out count r out' count' other xf₀ told s words' xf' told' long fit fit-xf n p z over h =
     let content : contentRefusal streamLimit (cpOf words) (bpOf words) (length xf) (length stream) ≡ 0 =
     or-zero _ _ (sym (p .answer-is) ∙ z) .0 in
-    let head : List ℕ = headBytes (cpOf words) (bpOf words) xf (length stream) in
-    let o : out' ≡ placed head out = rw z at (p .out-is) in
-    let c : count' ≡ length head = rw z at (p .count-is) in
-    let front : take count' out' ≡ head = (λ i. take (c i) (o i)) ∙ take-append-seam head (drop (length head) out) in
+    let front = put-front _ (headBytes (cpOf words) (bpOf words) xf (length stream)) out count r out' count' p z in
     let file : take count' out' ++ stream ≡ fileBytes (recordingOf (cpOf words) (bpOf words) xf stream) =
     ap (λ (l : List ℕ). l ++ stream) front ∙ sym (recording-promises .head-then-stream (recordingOf (cpOf words) (bpOf words) xf stream)) in
     left-alone other (take count' out' ++ stream) xf₀ told s words' xf' told'

@@ -29,6 +29,7 @@ use Rattle.machine.specs.declared.Registers.{Registers}
 use Rattle.machine.specs.State.{State, stateOf}
 use Rattle.machine.proofs.Below.{below-at, below-all}
 use Rattle.writer.specs.Write.{placed}
+use Rattle.answers.specs.Counting.{PutsBytes}
 use Rattle.words.specs.State.{windowOf, fifoOf, cpOf, bpOf, stateAt, wordsBy, fifoStored}
 use Rattle.words.specs.Promises.{stateWith}
 use Rattle.words.proofs.Holding.{words-promises}
@@ -246,6 +247,14 @@ module _ (words xf stream : List ℕ) (long : length words ≡ 327) (fit : Words
         stream-is = stream-there out;
       }
 
+-- what a call that writes has put stands at the front of its output
+pub put-front : (refusal : ℕ) (bytes out : List ℕ) (count r : ℕ) (out' : List ℕ) (count' : ℕ)
+    → PutsBytes refusal bytes out count r out' count' → r ≡ 0 → take count' out' ≡ bytes
+put-front refusal bytes out count r out' count' p z =
+    let o : out' ≡ placed bytes out = rw z at (p .out-is) in
+    let c : count' ≡ length bytes = rw z at (p .count-is) in
+    (λ i. take (c i) (o i)) ∙ take-append-seam bytes (drop (length bytes) out)
+
 -- what was written is the file of a content that is not refused
 module _ (words xf stream out : List ℕ) (count r : ℕ) (out' : List ℕ) (count' : ℕ)
     (p : PutsFile streamLimit words xf stream out count r out' count') (z : r ≡ 0) where
@@ -254,11 +263,7 @@ module _ (words xf stream out : List ℕ) (count r : ℕ) (out' : List ℕ) (cou
   taken-content = or-zero _ _ (sym (p .answer-is) ∙ z) .0
 
   pub written-whole : take count' out' ≡ fileBytes (recordingOf (cpOf words) (bpOf words) xf stream)
-  written-whole =
-      let file : List ℕ = fileBytes (recordingOf (cpOf words) (bpOf words) xf stream) in
-      let o : out' ≡ placed file out = rw z at (p .out-is) in
-      let c : count' ≡ length file = rw z at (p .count-is) in
-      (λ i. take (c i) (o i)) ∙ take-append-seam file (drop (length file) out)
+  written-whole = put-front _ _ out count r out' count' p z
 
 pub written-read : (words xf stream out : List ℕ) (count r : ℕ) (out' : List ℕ) (count' : ℕ) (other xf₀ told : List ℕ) (s : ℕ)
     (words' xf' told' : List ℕ) → length words ≡ 327 → WordsFit words → WordsFit xf → length xf₀ ≡ xfCount

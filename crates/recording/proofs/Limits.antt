@@ -1,15 +1,13 @@
 -- What specs/Limits says.
 use mathlib.Core.Path.{_≡_, refl, sym, ap, _∙_}
-use mathlib.Core.Bool.{false}
 use mathlib.Core.Logic.{_⊎_, inl, inr, ⊎-elim}
 use mathlib.Core.List.{List}
 use Prim.Native.Nat.{ℕ, zero, suc, _+_, _*_, _^_, _<_, _≤_}
 use native.Mathlib.Omega.{arith}
-use lib.Dec.{eqb}
 use lib.ListN.{length}
-use borrow.Author.Tests.{eqb-true, eqb-false, le-leb, lt-leb, lt-ltb, le-ltb}
-use Rattle.laws.proofs.Cases.{tested, order}
-use Rattle.refusal.specs.Number.{orElse}
+use borrow.Author.Tests.{ne-eqb, le-leb, lt-leb, lt-ltb, le-ltb}
+use Rattle.laws.proofs.Cases.{order}
+use Rattle.refusal.proofs.First.{or-some}
 use Rattle.recording.specs.Format.{Recording, fileBytes, streamCountAt, numberCount, fileNumber}
 use Rattle.recording.specs.Faults.{numberFault, firstFault, firstPlace, headFault, headPlace, fileFault}
 use Rattle.recording.specs.Answers.{headRefusal, readRefusal, contentRefusal, recordRefusal, headRecordRefusal}
@@ -18,11 +16,6 @@ use Rattle.recording.specs.Limits.{ReadAlike, WrittenAlike, LongStream, 
 use Rattle.recording.proofs.Classes.{of-stream-count}
 use Rattle.recording.proofs.Sound.{clean, told-within}
 use Rattle.recording.proofs.Back.{accepted-back, last-count}
-
--- a fault ends the search
-stops : (f rest : ℕ) → eqb f 0 ≡ false → orElse f rest ≡ f
-stops zero rest e = absurd (eqb-false 0 0 e refl)
-stops (suc f) rest e = refl
 
 module _ (a b : ℕ) (file : List ℕ) (raised : a ≤ b) where
   -- what the search finds in n numbers from number k on: by both limits the same, or by the first one 20 at the stream's count
@@ -60,11 +53,12 @@ module _ (a b : ℕ) (file : List ℕ) (raised : a ≤ b) where
                   elim (found n (suc k) (omega arith)) [
                     | inl s ↦ inl (rw (w, e, s .0), rw (w, e, s .1))
                     | inr s ↦
-                        elim (tested (eqb (numberFault b k v) 0)) [
-                          | inl z ↦
-                              let q : numberFault b k v ≡ 0 = eqb-true (numberFault b k v) 0 z in
-                              inr (rw (w, e, q) (s .0), rw (w, e, q) (s .1))
-                          | inr z ↦ inl (rw (w, e) (stops (numberFault b k v) _ z ∙ sym (stops (numberFault b k v) _ z)), rw (w, e, z))
+                        let f = numberFault b k v in
+                        elim (order f 1) [
+                          | inl z ↦ let q : f ≡ 0 = omega (arith, z) in inr (rw (w, e, q) (s .0), rw (w, e, q) (s .1))
+                          | inr z ↦
+                              let q = ne-eqb f 0 (λ y. omega (arith, y, z)) in
+                              inl (rw (w, e) (or-some f _ z ∙ sym (or-some f _ z)), rw (w, e, q))
                         ]
                   ]
             ]
