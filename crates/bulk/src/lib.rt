@@ -7,7 +7,7 @@ use command::Draw;
 pub use straight::take_straight;
 
 // How many units were taken, the place after them, the draw that they leave, and the bytes of a vertex of it, 0 where there is none.
-#[derive(Drop)]
+#[derive(Clone, Copy)]
 pub struct Many {
     pub units: u32,
     pub at: usize,

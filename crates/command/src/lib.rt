@@ -5,7 +5,7 @@ pub use layout::LARGEST_VERTEX;
 use refusal::Reason;
 pub use units::{look_bp, look_call, look_cp, look_indexed, look_xf, unit};
 
-#[derive(Drop)]
+#[derive(Clone, Copy)]
 pub enum Command {
     NoOperation,
     InvalidateCache,
@@ -42,7 +42,7 @@ pub enum Command {
 }
 
 // "An open draw or none": what an open one has left.
-#[derive(Drop)]
+#[derive(Clone, Copy)]
 pub enum Draw {
     Closed,
     Open {
@@ -53,7 +53,7 @@ pub enum Draw {
 }
 
 // What the stream goes on with.
-#[derive(Drop)]
+#[derive(Clone, Copy)]
 pub enum Next {
     // A whole unit, with the memory address that an indexed load reports (0 for every other command) and its bytes.
     Unit {

@@ -5,7 +5,7 @@ ghost use Rattle.cursor.specs.Cursor.{opened, onward, skipped, straight_by, clos
 use fifo::{Fifo, gap, minus, with_window};
 
 // Where the pending bytes stand in the ring: the place of the first, how many are left, and the ring's size.
-#[derive(Drop)]
+#[derive(Clone, Copy)]
 pub struct Cursor {
     pub at: u32,
     pub left: u32,

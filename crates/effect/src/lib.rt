@@ -73,7 +73,7 @@ pub fn copy_vertex(buffer: &mut [u8], bytes: &[u8])
     ensures { buffer.new ≡ copied bytes.now buffer.old }
 {
     if bytes.len() <= buffer.len() {
-        bytes::copy(bytes, buffer);
+        buffer[..bytes.len()].copy_from_slice(bytes);
     }
 }
 

@@ -1,5 +1,7 @@
 // What a descriptor says of each of a vertex's 21 attributes, as document 01's "Vertex layout" and source document 004's tables of the VCD
 // and the VAT give it.
+#![tactic(auto)]
+
 pub mod attributes;
 
 ghost use Rattle.std.specs.Prelude.{◌≡◌, ◌%◌, ◌<◌};
@@ -10,7 +12,7 @@ ghost use Rattle.fields.specs.Inner.{vat_of, normal_indices};
 use attributes::{COLOUR0, COLOUR1, COUNT, NORMAL, POSITION};
 
 // What names a vertex's attributes and their formats: the two words of the VCD, and the three of the VAT in use.
-#[derive(Drop)]
+#[derive(Clone, Copy)]
 pub struct Descriptor {
     pub vcd0: u32,
     pub vcd1: u32,
@@ -20,7 +22,7 @@ pub struct Descriptor {
 }
 
 // What a descriptor says of one attribute. Its mode: 0 absent, 1 direct, 2 and 3 an index of 8 or 16 bits; of a matrix 0 or 1.
-#[derive(Drop)]
+#[derive(Clone, Copy)]
 pub struct Field {
     pub mode: u32,
     pub count: u32,
@@ -30,7 +32,7 @@ pub struct Field {
 }
 
 // The count bit, the format and the shift of an attribute, as the VAT has them.
-#[derive(Drop)]
+#[derive(Clone, Copy)]
 pub struct Vat {
     pub count: u32,
     pub format: u32,

@@ -11,7 +11,7 @@ pub use rules::{count, gap, minus, ready, valid};
 pub const SIZE_LIMIT: u32 = 1048576;
 
 // The ring window: the hardware registers 020 to 03A, but for the count. The end is exclusive.
-#[derive(Drop)]
+#[derive(Clone, Copy)]
 pub struct Window {
     pub start: u32,
     pub end: u32,
@@ -22,35 +22,35 @@ pub struct Window {
 }
 
 // What one port owns: the window and the control word.
-#[derive(Drop)]
+#[derive(Clone, Copy)]
 pub struct Fifo {
     pub window: Window,
     pub control: u16,
 }
 
 // The bytes pending, or why they are not counted.
-#[derive(Drop)]
+#[derive(Clone, Copy)]
 pub enum Counted {
     Count(u32),
     Refused(Reason),
 }
 
 // A hardware register's value, or why it is not read.
-#[derive(Drop)]
+#[derive(Clone, Copy)]
 pub enum Reading {
     Value(u16),
     Refused(Reason),
 }
 
 // Whether a call that changes the fifo was accepted.
-#[derive(Drop)]
+#[derive(Clone, Copy)]
 pub enum Answer {
     Accepted,
     Refused(Reason),
 }
 
 // The fifo after a call, as it was before where the call is refused, and the answer.
-#[derive(Drop)]
+#[derive(Clone, Copy)]
 pub struct Changed {
     pub fifo: Fifo,
     pub answer: Answer,

@@ -18,14 +18,14 @@ use refusal::Reason;
 // "A vertex has 1 to 129 bytes."
 pub const LARGEST_VERTEX: usize = 129;
 
-#[derive(Drop)]
+#[derive(Clone, Copy)]
 pub enum LayoutAnswer {
     Accepted,
     Refused(Reason),
 }
 
 // The bytes of each attribute and of all before it. A refused layout has length 0 and zeros.
-#[derive(Drop)]
+#[derive(Clone, Copy)]
 pub struct Layout {
     pub answer: LayoutAnswer,
     pub length: u32,
@@ -34,14 +34,14 @@ pub struct Layout {
 }
 
 // The length of a vertex alone. A refused one is 0.
-#[derive(Drop)]
+#[derive(Clone, Copy)]
 pub struct Extent {
     pub answer: LayoutAnswer,
     pub length: u32,
 }
 
 // The length of a vertex, 0 where it is refused, and where one attribute starts in it, refused or not.
-#[derive(Drop)]
+#[derive(Clone, Copy)]
 pub struct Spot {
     pub answer: LayoutAnswer,
     pub length: u32,

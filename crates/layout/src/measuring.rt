@@ -14,7 +14,7 @@ use refusal::Reason;
 const MATRICES: u32 = attributes::POSITION as u32;
 
 // The bytes of all attributes, and of the matrices among them.
-#[derive(Drop)]
+#[derive(Clone, Copy)]
 pub struct Sum {
     pub bytes: u32,
     pub matrices: u32,

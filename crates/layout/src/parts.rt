@@ -6,14 +6,14 @@ ghost use Rattle.layout.specs.Inner.{asked, half_byte, AbsentFrom, PartBy, Weigh
 use fields::{Descriptor, colour_width, normal_indices};
 
 // What one attribute adds: its bytes, and whether it is present in a format that is none.
-#[derive(Drop)]
+#[derive(Clone, Copy)]
 pub struct Part {
     pub bytes: u32,
     pub unknown: bool,
 }
 
 // The bytes of the attributes in group 0 of the VAT, and whether one of them is present in a format that is none.
-#[derive(Drop)]
+#[derive(Clone, Copy)]
 pub struct Fore {
     pub position: u32,
     pub normal: u32,
@@ -24,7 +24,7 @@ pub struct Fore {
 }
 
 // The bytes of the other textures, and whether an attribute is present in a format that is none.
-#[derive(Drop)]
+#[derive(Clone, Copy)]
 pub struct Textures {
     pub texture1: u32,
     pub texture2: u32,

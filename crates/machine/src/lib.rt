@@ -27,7 +27,7 @@ pub struct Machine {
 }
 
 // Whether the state and the lent memory pass refusals 1 to 5.
-#[derive(Drop)]
+#[derive(Clone, Copy)]
 pub enum Gate {
     Passed,
     Refused(Reason),

@@ -31,8 +31,9 @@ front zero v y h = omega arith
 front (suc n) v y h =
     let high : v / 256 < 256 ^ n = below (256 ^ n) v (rw (pow-succ' 256 n) at h) in
     let l : length (bytes_of n (v / 256)) ≡ n = length_bytes n (v / 256) in
-    rw (
-      append_assoc,
+    let whole : bytes_of (suc n) v ++ y ≡ bytes_of n (v / 256) ++ ((v % 256 ∷ []) ++ y) = append_assoc (bytes_of n (v / 256)) (v % 256 ∷ []) y in
+    ap (λ (x : List ℕ). big_endian x 0 (suc n)) whole
+    ∙ rw (
       front n (v / 256) ((v % 256 ∷ []) ++ y) high,
       zero-add n,
       get_or_at (bytes_of n (v / 256)) (v % 256) y 0 n l,

@@ -1,4 +1,6 @@
 // "All multi-byte numbers in the stream are big-endian": numbers as they stand in bytes.
+#![tactic(auto)]
+
 ghost use Rattle.std.specs.Prelude.{◌≡◌, ◌+◌, ◌*◌, ◌<◌, get_or};
 ghost use Rattle.octets.specs.BigEndian.{big_endian, at_most_four, with_words};
 

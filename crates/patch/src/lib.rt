@@ -6,7 +6,7 @@ ghost use Rattle.patch.specs.Answers.{meaning};
 
 use refusal::Reason;
 
-#[derive(Drop)]
+#[derive(Clone, Copy)]
 pub enum Checked {
     Accepted,
     Refused(Reason),

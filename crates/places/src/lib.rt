@@ -1,4 +1,6 @@
 // Where each CP register stands among the 60.
+#![tactic(auto)]
+
 ghost use Rattle.std.specs.Prelude.{◌≡◌, ◌+◌};
 ghost use Rattle.places.specs.Places.{vcd_place, vat_place, base_place, stride_place, cp_place, cp_accepted};
 

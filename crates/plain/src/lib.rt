@@ -7,7 +7,7 @@ ghost use Rattle.plain.specs.Fixed.{Fixed};
 pub use zeros::take_zeros;
 
 // How many units were taken, and the place after them; none where there is none that is whole.
-#[derive(Drop)]
+#[derive(Clone, Copy)]
 pub struct Passed {
     pub units: u32,
     pub at: usize,

@@ -1,6 +1,6 @@
 // The processor: one unit of the stream, looked at or taken (document 01's "bench").
-mod looking;
+mod viewing;
 mod taking;
 
-pub use looking::look;
+pub use viewing::look;
 pub use taking::{TakenUnit, take};

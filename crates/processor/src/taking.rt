@@ -8,7 +8,7 @@ use machine::Gate;
 use unit::StepAnswer;
 
 // What a taking leaves of the fifo and the draw, and its answer.
-#[derive(Drop)]
+#[derive(Clone, Copy)]
 pub struct TakenUnit {
     pub fifo: Fifo,
     pub draw: Draw,

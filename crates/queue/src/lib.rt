@@ -11,7 +11,7 @@ fn store(ring: &mut [u8], at: usize, bytes: &[u8])
     requires { at + length bytes.now ≤ length ring.old }
     ensures { ring.new ≡ put ring.old at bytes.now }
 {
-    bytes::copy(bytes, &mut ring[at..]);
+    ring[at..at + bytes.len()].copy_from_slice(bytes);
 }
 
 // Stores bytes from a place on and, past the ring's end, which is `straight` bytes on, from its start.

@@ -7,7 +7,7 @@ use recording::HEAD_LENGTH;
 use std::num::wrapping_add_u32;
 
 // The pass over the stream of a recording that is in order; or how the program ends where it is not.
-#[derive(Drop)]
+#[derive(Clone, Copy)]
 pub enum Loaded {
     Stream(Pass),
     Not(Verdict),

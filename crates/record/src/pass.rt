@@ -4,7 +4,7 @@ use libc::{SEEK_CUR, SEEK_SET, STDIN_FILENO, STDOUT_FILENO};
 use std::num::wrapping_add_usize;
 
 // Where the pass began, and the bytes met so far; whether it goes on; whether a read failed, and whether the output takes no more.
-#[derive(Drop)]
+#[derive(Clone, Copy)]
 pub struct Pass {
     start: i64,
     pub count: usize,

@@ -4,7 +4,7 @@ use libc::STDERR_FILENO;
 // All was written, or the output took no more; a read failed; standard input was not as long the second time as the first, or cannot be
 // read twice; what was to be recorded is a recording; the argument has no meaning; the recording to write was refused; one that was read
 // is bad, at this byte.
-#[derive(Drop)]
+#[derive(Clone, Copy)]
 pub enum Verdict {
     Written,
     Unwritable,

@@ -14,14 +14,14 @@ pub const STREAM_LIMIT: u32 = 1048575;
 pub const HEAD_LENGTH: usize = 18016;
 
 // Whether something is in order.
-#[derive(Drop)]
+#[derive(Clone, Copy)]
 pub enum Verdict {
     Sound,
     Refused(Reason),
 }
 
 // The first fault of a file's numbers, and the byte where it stands.
-#[derive(Drop)]
+#[derive(Clone, Copy)]
 pub enum Fault {
     None,
     At { place: u32, reason: Reason },

@@ -13,7 +13,7 @@ use recording::{Fault, HEAD_LENGTH, Verdict};
 use refusal::Reason;
 
 // How long the stream is, as its count tells it.
-#[derive(Drop)]
+#[derive(Clone, Copy)]
 pub enum HeadAnswer {
     Stream(u32),
     Refused(Reason),
@@ -27,7 +27,7 @@ pub struct HeadRead {
 }
 
 // Where the stream stands in the file, and how long it is.
-#[derive(Drop)]
+#[derive(Clone, Copy)]
 pub enum ReadAnswer {
     Stream { at: u32, length: u32 },
     Refused(Reason),

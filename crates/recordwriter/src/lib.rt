@@ -103,6 +103,6 @@ pub fn write(cp: &[u32; 60], bp: &[u32; 256], xf: &[u32], stream: &[u8], out: &m
         return Written::Refused(Reason::OutputShort);
     }
     put_head(out, cp, bp, xf, stream.len());
-    bytes::copy(stream, &mut out[HEAD_LENGTH..]);
+    out[HEAD_LENGTH..size].copy_from_slice(stream);
     Written::Bytes(size as u32)
 }

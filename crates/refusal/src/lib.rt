@@ -1,10 +1,12 @@
 // Why a call or a unit of the stream is refused: one case for each number of document 01's table and of document 02's, named by what is
 // wrong.
 // A patch is document 01's correction sheet.
+#![tactic(auto)]
+
 ghost use Rattle.std.specs.Prelude.{◌≡◌};
 ghost use Rattle.refusal.specs.Number.{number};
 
-#[derive(Drop)]
+#[derive(Clone, Copy)]
 pub enum Reason {
     // 1: window, ring length, register widths, control or open draw break the rules.
     InvalidState,

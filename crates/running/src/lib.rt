@@ -11,7 +11,7 @@ use machine::Gate;
 use refusal::Reason;
 
 // Why a run stopped: "at its limit, at waiting or at a refusal".
-#[derive(Drop)]
+#[derive(Clone, Copy)]
 pub enum Stop {
     Limit,
     Waiting(u32),
@@ -19,7 +19,7 @@ pub enum Stop {
 }
 
 // What a run leaves of the fifo and the draw, how many units it took, and why it stopped.
-#[derive(Drop)]
+#[derive(Clone, Copy)]
 pub struct Ran {
     pub fifo: Fifo,
     pub draw: Draw,

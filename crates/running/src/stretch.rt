@@ -7,7 +7,7 @@ use command::Draw;
 use cursor::Cursor;
 
 // What is left of the cursor and the draw, how many units were taken, and the bytes of a vertex of the draw, 0 where these are not known.
-#[derive(Drop)]
+#[derive(Clone, Copy)]
 pub struct Stretch {
     pub cursor: Cursor,
     pub draw: Draw,

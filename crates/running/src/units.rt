@@ -18,7 +18,7 @@ use unit::{Moved, StepAnswer};
 pub const RUN_LIMIT: u32 = 1048575;
 
 // What a run leaves of the fifo and the draw, the units that it took, and why it stopped.
-#[derive(Drop)]
+#[derive(Clone, Copy)]
 pub struct Course {
     pub fifo: Fifo,
     pub draw: Draw,

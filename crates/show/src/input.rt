@@ -4,7 +4,7 @@ use libc::STDIN_FILENO;
 use std::num::wrapping_add_usize;
 
 // How many bytes are at the front of a buffer; whether the input has ended, and whether that was a read that failed.
-#[derive(Drop)]
+#[derive(Clone, Copy)]
 pub struct Got {
     pub count: usize,
     pub has_ended: bool,

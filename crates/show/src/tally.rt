@@ -15,7 +15,7 @@ pub const UNTOLD: u64 = u64::MAX;
 // last draw, and the offset of its first; the last answer's number (0 before the first and for a unit done, WAITING, else a refusal's or
 // UNREADABLE) and the bytes lacking beside it; whether units are taken; how long the stream is told to be, the bytes read of it and behind
 // it, and whether the input has ended.
-#[derive(Drop)]
+#[derive(Clone, Copy)]
 pub struct Tally {
     pub units: u64,
     pub draws: u64,

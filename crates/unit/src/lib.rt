@@ -11,7 +11,7 @@ use cursor::Cursor;
 use refusal::Reason;
 
 // "step answer enum whose done case holds the command enum and whose refused case holds the reason enum": what a look and a taking answer.
-#[derive(Drop)]
+#[derive(Clone, Copy)]
 pub enum StepAnswer {
     // A unit, told by a look and done by a taking: its command, the memory address that an indexed load reports (0 for every other
     // command), and its bytes.
@@ -26,7 +26,7 @@ pub enum StepAnswer {
 }
 
 // What one unit leaves of the cursor and the draw, and its answer.
-#[derive(Drop)]
+#[derive(Clone, Copy)]
 pub struct Moved {
     pub cursor: Cursor,
     pub draw: Draw,

@@ -4,7 +4,7 @@ use command::Draw;
 use fifo::Fifo;
 
 // The last answer's number and the words of its unit; the fifo and the draw after it.
-#[derive(Drop)]
+#[derive(Clone, Copy)]
 struct Taken {
     number: u32,
     unit: [u32; 6],
@@ -14,7 +14,7 @@ struct Taken {
 
 // What is left after the last: its answer's number and its unit's words, the bytes that are pending, the vertices left of the open draw (0
 // where none is open), and the registers and XF words.
-#[derive(Drop)]
+#[derive(Clone, Copy)]
 struct Left {
     number: u32,
     unit: [u32; 6],

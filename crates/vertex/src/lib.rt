@@ -11,7 +11,7 @@ use layout::LayoutAnswer;
 use refusal::Reason;
 
 // Three single-precision components.
-#[derive(Drop)]
+#[derive(Clone, Copy)]
 pub struct Triple {
     pub x: f32,
     pub y: f32,
@@ -19,7 +19,7 @@ pub struct Triple {
 }
 
 // What an attribute decodes to.
-#[derive(Drop)]
+#[derive(Clone, Copy)]
 pub enum Attribute {
     Absent,
     Matrix(u32),
@@ -33,27 +33,27 @@ pub enum Attribute {
     Frame(Triple, Triple, Triple),
 }
 
-#[derive(Drop)]
+#[derive(Clone, Copy)]
 pub enum Answer {
     Done(Attribute),
     Refused(Reason),
 }
 
 // Where an attribute starts in a vertex.
-#[derive(Drop)]
+#[derive(Clone, Copy)]
 enum Place {
     At(u8),
     Refused(Reason),
 }
 
-#[derive(Drop)]
+#[derive(Clone, Copy)]
 pub enum RawAnswer {
     Count(u32),
     Refused(Reason),
 }
 
 // How many f32 components an attribute has, and their patterns as they stand, zeros after. A refused one has zeros.
-#[derive(Drop)]
+#[derive(Clone, Copy)]
 pub struct RawWords {
     pub answer: RawAnswer,
     pub words: [u32; 9],

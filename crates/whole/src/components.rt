@@ -8,7 +8,7 @@ ghost use Rattle.vertex.specs.Attributes.{bits_of};
 ghost use Rattle.whole.specs.Inner.{UpToThree, frame_list};
 
 // The bits of three components, 0 for each that is absent.
-#[derive(Drop)]
+#[derive(Clone, Copy)]
 pub struct Three {
     pub x: u32,
     pub y: u32,

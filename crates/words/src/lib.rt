@@ -14,7 +14,7 @@ pub const CP_PLACE: usize = 11;
 pub const BP_PLACE: usize = 71;
 
 // Words 0 to 10 in the types of the fifo and the draw, or too wide for them.
-#[derive(Drop)]
+#[derive(Clone, Copy)]
 pub enum Front {
     Held { fifo: Fifo, draw: Draw },
     Wide,

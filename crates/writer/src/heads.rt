@@ -5,7 +5,7 @@ ghost use Rattle.writer.specs.Heads.{Begins};
 
 use command::Command;
 
-#[derive(Drop)]
+#[derive(Clone, Copy)]
 pub struct Front {
     pub bytes: [u8; 9],
     pub length: usize,

@@ -8,7 +8,7 @@ ghost use Rattle.writer.specs.Write.{words_of, head_then_words, Writes};
 use command::Command;
 use refusal::Reason;
 
-#[derive(Drop)]
+#[derive(Clone, Copy)]
 pub enum Written {
     // So many bytes.
     Bytes(u32),
@@ -30,7 +30,7 @@ fn put(out: &mut [u8], bytes: [u8; 9], at: usize, words: &[u32], n: usize)
     requires { (at ≤ 9) × ((n ≤ length words.now) × ((at + 4 * n ≤ length out.old) × (n ≤ 255))) }
     ensures { out.new ≡ head_then_words (take at bytes) at words.now n out.old }
 {
-    bytes::copy(&bytes[..at], out);
+    out[..at].copy_from_slice(&bytes[..at]);
     octets::write_words(&words[..n], &mut out[at..]);
 }
 

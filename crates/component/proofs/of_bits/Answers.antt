@@ -10,23 +10,16 @@ use native.Mathlib.Omega.{arith}
 use borrow.Author.Rules.{rules}
 use Rattle.component.proofs.NotNan.{not_nan}
 use Rattle.component.proofs.Patterns.{nan_bits_lem}
-use Rattle.component.proofs.of_bits.Statement.{statement}
-use Rattle.component.proofs.of_bits.Tie as tie
+use Rattle.component.proofs.of_bits.Goals as goal
 
 zero_by_zero : div binary32 (of_bits binary32 0) (of_bits binary32 0) ≡ nan
 unfolding div of_bits
 zero_by_zero = refl
 
-float-from-bits-result : tie.Need-float-from-bits-result
-float-from-bits-result c = not_nan c.before.args.b (omega (arith, c.if1.false))
+pub float_from_bits-result : goal.float_from_bits-result
+float_from_bits-result c = not_nan c.args.b (omega (arith, c.if-b-gt2139095040.false))
 
-returns : tie.Need-returns
-returns c =
-    let b = c.before.args.b in
-    zero_by_zero ∙ sym (nan_bits_lem b (subst T (sym (nan_bits_above binary32 b ∙ lt-ltb 2139095040 (b % 2147483648) c.if1.true)) tt))
-
-returns-2 : tie.Need-returns-2
-returns-2 c = search rules
-
-pub of-bits-spec : {M : Type 1} → statement M
-of-bits-spec = tie.close (tie.spec float-from-bits-result returns returns-2)
+pub returns-then-b-gt2139095040 : goal.returns-then-b-gt2139095040
+returns-then-b-gt2139095040 c =
+    let b = c.args.b in
+    zero_by_zero ∙ sym (nan_bits_lem b (subst T (sym (nan_bits_above binary32 b ∙ lt-ltb 2139095040 (b % 2147483648) c.if-b-gt2139095040.true)) tt))

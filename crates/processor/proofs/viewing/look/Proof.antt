@@ -5,8 +5,8 @@ use Rattle.processor.proofs.Stepping.{found_refused, looks_passed}
 use Rattle.machine.proofs.Passing.{passed}
 use Rattle.machine.specs.Gate.{meaning_of_gate}
 use Rattle.machine.specs.State.{State, state_of}
-use Rattle.processor.proofs.looking.look.Statement.{statement}
-use Rattle.processor.proofs.looking.look.Tie as tie
+use Rattle.processor.proofs.viewing.look.Statement.{statement}
+use Rattle.processor.proofs.viewing.look.Tie as tie
 
 pass-requires : tie.Need-pass-requires
 pass-requires c κs = search rules

@@ -1,9 +1,9 @@
--- `processor::looking::answer_of` meets its contract: in each arm what was found is known.
+-- `processor::viewing::answer_of` meets its contract: in each arm what was found is known.
 use borrow.Author.Rules.{rules}
 use mathlib.Core.Path.{sym, ap}
 use Rattle.command.specs.Command.{meaning}
-use Rattle.processor.proofs.looking.answer_of.Statement.{statement}
-use Rattle.processor.proofs.looking.answer_of.Tie as tie
+use Rattle.processor.proofs.viewing.answer_of.Statement.{statement}
+use Rattle.processor.proofs.viewing.answer_of.Tie as tie
 
 enum-known-next : tie.Need-enum-known-next
 enum-known-next c = search rules
