@@ -1,4 +1,6 @@
 // A command of the stream: its fields as they stood there, before any masking; loads and calls, recognised from their first bytes.
+#![tactic(auto)]
+
 mod units;
 
 pub use layout::LARGEST_VERTEX;

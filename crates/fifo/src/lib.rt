@@ -1,4 +1,6 @@
 // What one port owns of the command stream: the ring window, its rules and its count.
+#![tactic(auto)]
+
 mod rules;
 
 ghost use Rattle.std.specs.Prelude.{◌≡◌};

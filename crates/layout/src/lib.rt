@@ -1,5 +1,7 @@
 // The layout of a vertex: the bytes and the place of each of its 21 attributes, as document 01's "Vertex layout" and source document 004's
 // tables of the VCD and the VAT give them.
+#![tactic(auto)]
+
 mod measuring;
 mod parts;
 

@@ -135,6 +135,12 @@ put_lent ring at bytes v e =
     ap (λ (x : List ℕ). take at ring ++ (bytes ++ x)) (drop-drop (length bytes) at ring) ∙
     sym (append_assoc (take at ring) bytes (drop (at + length bytes) ring))
 
+-- a stretch of a ring, given back with the bytes in its place
+pub put_over : (ring : List ℕ) (at : ℕ) (bytes v : List ℕ) → v ≡ bytes → put_mid at (at + length bytes - at) ring v ≡ put ring at bytes
+put_over ring at bytes v e =
+    let n : at + length bytes - at ≡ length bytes = omega arith in
+    rw (e, n, drop-drop (length bytes) at ring) (sym (append_assoc (take at ring) bytes (drop (at + length bytes) ring)))
+
 -- ---- the two stretches where the first takes all
 
 pub put_straight : (ring : List ℕ) (at straight : ℕ) (bytes : List ℕ) → length bytes ≤ straight

@@ -1,4 +1,6 @@
 // The queue that the ring holds, and feeding bytes at the write pointer, in at most two straight stretches.
+#![tactic(auto)]
+
 ghost use Rattle.std.specs.Prelude.{◌≡◌, ◌+◌, ◌≤◌, ◌<◌, length};
 ghost use Rattle.fifo.specs.Window.{size_of, Valid, accept};
 ghost use Rattle.queue.specs.Feeding.{put, put_round, FedBy};

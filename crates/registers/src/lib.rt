@@ -1,4 +1,6 @@
 // The hardware registers, read and written: which register an offset belongs to, then which half.
+#![tactic(auto)]
+
 ghost use Rattle.std.specs.Prelude.{◌≡◌, ◌<◌, get_or, set};
 ghost use Rattle.fifo.specs.Window.{Valid, with_control};
 ghost use Rattle.fifo.specs.Answers.{meaning_of_reading, ChangedBy};

@@ -1,4 +1,6 @@
 // One attribute of a vertex: what document 01's "Vertex layout" says that it decodes to, and the patterns of its f32 components.
+#![tactic(auto)]
+
 mod raw;
 
 ghost use Rattle.std.specs.Prelude.{◌≡◌, ◌<◌, ◌≤◌};

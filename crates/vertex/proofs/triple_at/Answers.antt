@@ -1,0 +1,10 @@
+-- Three components in a row.
+use borrow.Author.Rules.{rules}
+use Rattle.vertex.proofs.triple_at.Goals as goal
+
+pub returns : goal.returns
+returns c =
+    let x = c.component_at-x.ensures in
+    let y = c.component_at-y.ensures in
+    let z = c.component_at-z.ensures in
+    cc
