@@ -1,4 +1,6 @@
 // A cursor over pending bytes: opened at the read pointer, moved on, closed. Total by definition.
+#![tactic(auto)]
+
 ghost use Rattle.std.specs.Prelude.{◌≡◌};
 ghost use Rattle.cursor.specs.Cursor.{opened, onward, skipped, straight_by, closed};
 

@@ -1,4 +1,6 @@
 // What a command does: on the CP registers, the BP registers, the vertex buffer and the open draw. XF words are stored in `execution`.
+#![tactic(auto)]
+
 ghost use Rattle.std.specs.Prelude.{◌≡◌, cond, get_or, set};
 ghost use Rattle.command.specs.Command.{numbers_of};
 ghost use Rattle.effect.specs.Effect.{kept_of, loaded_cp, loaded_bp, copied, draw_after, opened_by, counted_down, masked};

@@ -1,4 +1,6 @@
 // What the stream goes on with: the first byte decides the class of a command; draw heads and vertices are recognised by their layout.
+#![tactic(auto)]
+
 ghost use Rattle.std.specs.Prelude.{◌≡◌, cond, ◌-◌, ◌≤◌, ltb};
 ghost use Rattle.refusal.specs.Number.{number};
 ghost use Rattle.command.specs.Command.{meaning, waiting, refused};

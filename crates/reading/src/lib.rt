@@ -1,4 +1,6 @@
 // The bytes that a cursor stands before, read: copied to the front of a list, or the first nine. Total by definition.
+#![tactic(auto)]
+
 ghost use Rattle.std.specs.Prelude.{◌≡◌, ◌++◌, ◌+◌, ◌≤◌, min, length, take, drop};
 ghost use Rattle.laws.specs.Values.{up_to};
 ghost use Rattle.queue.specs.Feeding.{put};

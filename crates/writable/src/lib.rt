@@ -1,4 +1,6 @@
 // What a command is refused for before any byte is written.
+#![tactic(auto)]
+
 ghost use Rattle.std.specs.Prelude.{◌≡◌};
 ghost use Rattle.command.specs.Command.{numbers_of};
 ghost use Rattle.writable.specs.Writable.{unwritable, unaddressed, past_end};

@@ -1,0 +1,8 @@
+-- `cursor::skip` meets its contract: field by field.
+use Rattle.cursor.specs.Cursor.{skipped}
+use borrow.Author.Rules.{rules}
+use Rattle.cursor.proofs.skip.Goals as goal
+
+pub returns : goal.returns
+unfolding skipped
+returns c = rw (c.forward.ensures, c.minus.ensures)
