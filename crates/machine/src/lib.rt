@@ -1,4 +1,6 @@
 // The machine's state: the registers that ports share beside the fifo, the fresh state, and refusals 1 to 5 (document 01's "bench").
+#![tactic(auto)]
+
 mod tests;
 
 ghost use Rattle.std.specs.Prelude.{◌≡◌};

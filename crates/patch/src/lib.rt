@@ -1,4 +1,6 @@
 // Patches of the BP registers (document 01's correction sheets): checked.
+#![tactic(auto)]
+
 ghost use Rattle.std.specs.Prelude.{◌≡◌, cond};
 ghost use Rattle.refusal.specs.Number.{number};
 ghost use Rattle.patch.specs.Patch.{patch_of, fault_at, fault_of};

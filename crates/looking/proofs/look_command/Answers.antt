@@ -45,7 +45,7 @@ returns-in-97 c = c.look_bp.ensures ∙ at_opcode _ _ _ c.in-97.is c.if-count-eq
 
 pub returns-in-128-to-191 : goal.returns-in-128-to-191
 returns-in-128-to-191 c =
-    let other : Other (get_or c.args.b 0 0) = let r = c.in_default-1.rest in
+    let other : Other (get_or c.args.b 0 0) = let r = c.in-128-to-191.in_default-own.rest in
     record {
       no_operation_lem = r.0.0.0.0.0.0.0.1;
       invalidate = r.0.0.0.0.0.0.1;
@@ -57,12 +57,12 @@ returns-in-128-to-191 c =
       bp = r.1;
     } in
     c.look_head.ensures
-    ∙ at_head _ _ _ other c.if-op-lt128.false c.in-128-to-191.if-op-lt192-own.true
+    ∙ at_head _ _ _ other c.in-128-to-191.if-op-lt128-own.false c.in-128-to-191.if-op-lt192-own.true
     ∙ at_opcode _ _ _ refl c.if-count-eq0.false
 
 pub returns-in_default : goal.returns-in_default
 returns-in_default c =
-    let other : Other (get_or c.args.b 0 0) = let r = c.in_default-1.rest in
+    let other : Other (get_or c.args.b 0 0) = let r = c.in_default.in_default-own.rest in
     record {
       no_operation_lem = r.0.0.0.0.0.0.0.1;
       invalidate = r.0.0.0.0.0.0.1;
@@ -77,7 +77,7 @@ returns-in_default c =
 
 pub returns-in_default-2 : goal.returns-in_default-2
 returns-in_default-2 c =
-    let other : Other (get_or c.args.b 0 0) = let r = c.in_default-1.rest in
+    let other : Other (get_or c.args.b 0 0) = let r = c.in_default.in_default-own.rest in
     record {
       no_operation_lem = r.0.0.0.0.0.0.0.1;
       invalidate = r.0.0.0.0.0.0.1;
@@ -88,4 +88,4 @@ returns-in_default-2 c =
       call = r.0.1;
       bp = r.1;
     } in
-    at_high _ _ _ other c.if-op-lt128.false c.in_default.if-op-lt192-own.false ∙ at_opcode _ _ _ refl c.if-count-eq0.false
+    at_high _ _ _ other c.in_default.if-op-lt128-own.false c.in_default.if-op-lt192-own.false ∙ at_opcode _ _ _ refl c.if-count-eq0.false

@@ -2,6 +2,7 @@
 use borrow.Author.Rules.{rules}
 use Rattle.writable.proofs.Others.{no_cp}
 use Rattle.writable.specs.Writable.{unaddressed}
+use borrow.Enum.Refused.{opened}
 use Rattle.writable.proofs.unaddressed.Goals as goal
 
 pub returns-in-LoadCp : goal.returns-in-LoadCp
@@ -10,4 +11,4 @@ returns-in-LoadCp c = rw (c.in-LoadCp.is, c.cp_accepted.ensures)
 
 pub returns : goal.returns
 unfolding unaddressed
-returns c = rw (no_cp _ c.in_default.in_default-own.keys2)
+returns c = rw (no_cp _ (opened c.in_default.in_default-own.keys2))

@@ -7,8 +7,7 @@ use lib.Bits.{bit_and}
 use borrow.Author.Rules.{rules}
 use Rattle.effect.specs.Effect.{mask_place}
 use Rattle.patch.specs.Patch.{fault_at}
-use Rattle.patch.proofs.fault_at.Statement.{statement}
-use Rattle.patch.proofs.fault_at.Tie as tie
+use Rattle.patch.proofs.fault_at.Goals as goal
 
 -- the last test, asked the other way round
 inside : (b : Bool) (x y : ℕ) → cond (not b) x y ≡ cond b y x
@@ -24,13 +23,7 @@ tests-are r mask n =
     ap (λ (x : ℕ). cond (eqb r mask_place && (not (eqb mask 0) || not (eqb n 0))) 13 (cond (ltb 0xFFFFFF mask) 14 x))
     (inside (eqb (bit_and n mask) n) 15 0)
 
-first-of-requires : tie.Need-first-of-requires
-first-of-requires c κs = search rules
-
-returns : tie.Need-returns
+pub returns : goal.returns
 returns c =
-    let a = c.before.args in
+    let a = c.args in
     c.first_of.ensures ∙ tests-are a.r a.mask a.number
-
-pub fault-at-spec : {M : Type 1} → statement M
-fault-at-spec = tie.close (tie.spec first-of-requires returns)

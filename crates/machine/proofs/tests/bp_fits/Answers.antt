@@ -8,25 +8,15 @@ use lib.ListN.{length, take, drop}
 use lib.Seq.{take_all}
 use Rattle.machine.specs.Gate.{all_below, bp_fits}
 use borrow.Author.Rules.{rules}
-use Rattle.machine.proofs.tests.bp_fits.Statement.{statement}
-use Rattle.machine.proofs.tests.bp_fits.Tie as tie
+use Rattle.machine.proofs.tests.bp_fits.Goals as goal
 
 -- as many as there are
 all : (bp : List ℕ) (n : ℕ) (b : Bool) → length bp ≤ n → b ≡ all_below (2 ^ 24) (take n (drop 0 bp)) → b ≡ bp_fits bp
 unfolding bp_fits
 all bp n b h e = e ∙ ap (all_below (2 ^ 24)) (take_all n bp h)
 
-join-requires : tie.Need-join-requires
-join-requires c κs = search rules
+pub returns-then-bp-eq256 : goal.returns-then-bp-eq256
+returns-then-bp-eq256 c = all _ 256 _ (le_of_eq c.if-bp-eq256.true) (c.join.ensures.below 24)
 
-returns : tie.Need-returns
-returns c = all _ 256 _ (le_of_eq c.before.if1.true) (c.join.ensures.below 24)
-
-join-requires-2 : tie.Need-join-requires-2
-join-requires-2 c κs = search rules
-
-returns-2 : tie.Need-returns-2
-returns-2 c = all _ _ _ (le_refl _) (c.join2.ensures.below 24)
-
-pub bp-fits-spec : {M : Type 1} → statement M
-bp-fits-spec = tie.close (tie.spec join-requires returns join-requires-2 returns-2)
+pub returns : goal.returns
+returns c = all _ _ _ (le_refl _) (c.join-2.ensures.below 24)

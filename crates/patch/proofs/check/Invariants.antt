@@ -1,0 +1,15 @@
+-- `patch::check` meets its contract: the search from a register on is the whole search as long as nothing was found.
+use mathlib.Core.Path.{◌≡◌, sym, ap, ◌∙◌}
+use Prim.Native.Nat.{◌-◌, ◌≤◌, ◌<◌}
+use native.Mathlib.Omega.{arith}
+use borrow.Author.Rules.{rules}
+use Rattle.patch.specs.Answers.{meaning}
+use Rattle.patch.proofs.Faults.{fault_masks, fault_numbers, fault_sized, fault_next, fault_here, fault_end}
+use Rattle.patch.specs.Patch.{bp_count, patch_of, fault_from, fault_of}
+use Rattle.patch.proofs.check.Given as goal
+
+abbrev pub invariant-loop-r : goal.invariant-loop-r
+invariant-loop-r l = (l.r ≤ bp_count) × (fault_of (patch_of l.masks l.numbers) ≡ fault_from (bp_count - l.r) l.r (patch_of l.masks l.numbers))
+
+abbrev pub decreases-loop-r : goal.decreases-loop-r
+decreases-loop-r l = bp_count - l.r
