@@ -1,4 +1,6 @@
 // A command of any class executed on the registers, the XF words and the vertex buffer that are lent.
+#![tactic(auto)]
+
 ghost use Rattle.std.specs.Prelude.{◌≡◌, ◌+◌, ◌*◌, ◌≤◌, length};
 ghost use Rattle.octets.specs.BigEndian.{big_endian};
 ghost use Rattle.command.specs.Command.{numbers_of};

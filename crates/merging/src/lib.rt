@@ -1,4 +1,6 @@
 // Two patches merged into one.
+#![tactic(auto)]
+
 ghost use Rattle.std.specs.Prelude.{◌≡◌, ◌&&◌, eqb};
 ghost use Rattle.patch.specs.Patch.{patch_of, bp_count};
 ghost use Rattle.merging.specs.Merging.{AllSized, Merges, MergesAll};

@@ -1,5 +1,7 @@
 // Units that change nothing, off a plain slice of bytes, where they lie whole from a place on while no draw is open: runs of 00, one unit
 // of a fixed length.
+#![tactic(auto)]
+
 mod zeros;
 
 ghost use Rattle.plain.specs.Fixed.{Fixed};

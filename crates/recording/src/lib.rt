@@ -1,5 +1,7 @@
 // A recording as one file (document 02, L1): its format, and the faults of a file, found at its first place. The crates `recordreader` and
 // `recordwriter` read and write it.
+#![tactic(auto)]
+
 ghost use Rattle.std.specs.Prelude.{◌≡◌, cond, [], ◌∷◌};
 ghost use Rattle.refusal.specs.Number.{number};
 ghost use Rattle.recording.specs.Faults.{stream_limit, number_fault, head_fault, head_place, rest_fault};

@@ -1,4 +1,6 @@
 // One unit of the stream at a cursor, looked at or taken. It tests none of 1 to 5.
+#![tactic(auto)]
+
 ghost use Rattle.std.specs.Prelude.{◌≡◌, ◌≤◌};
 ghost use Rattle.command.specs.Command as command;
 ghost use Rattle.command.specs.Command.{numbers_of};

@@ -1,4 +1,6 @@
 // One command as the bytes of its unit.
+#![tactic(auto)]
+
 mod heads;
 
 ghost use Rattle.std.specs.Prelude.{◌≡◌, ◌+◌, ◌*◌, ◌≤◌, length, take};

@@ -28,5 +28,4 @@ returns-then-r-eq256 c = sym (c.loop-r.invariant.1 ∙ fault_end _ _ c.if-r-eq25
 pub returns-in-Refused : goal.returns-in-Refused
 returns-in-Refused c =
     let h : c.loop-r.r < bp_count = omega arith in
-    let told = c.fault-1.given in
-    sym (c.loop-r.invariant.1 ∙ fault_here _ _ h told.0.0 (ap meaning (sym told.1) ∙ c.fault_at-fault.ensures))
+    sym (c.loop-r.invariant.1 ∙ fault_here _ _ h c.in-Refused.reason (ap meaning (sym c.in-Refused.is) ∙ c.fault_at-fault.ensures))

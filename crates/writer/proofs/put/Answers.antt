@@ -9,8 +9,7 @@ use lib.ListN.{length, take, drop}
 use lib.Seq.{length-take-le, take-length, drop-drop}
 use Rattle.octets.specs.BigEndian.{word_bytes, with_words}
 use Rattle.octets.proofs.Words.{length_words, words_lent}
-use Rattle.writer.proofs.put.Statement.{statement}
-use Rattle.writer.proofs.put.Tie as tie
+use Rattle.writer.proofs.put.Goals as goal
 
 -- the bytes copied are as many as were asked for, and so are the words
 many : (n : ℕ) (l : List ℕ) → n ≤ length l → n ≡ length (take n l)
@@ -27,60 +26,27 @@ lent at n ws out v e h q =
     words_lent out ws v at (omega arith) q
     ∙ ap (λ (x : List ℕ). take at out ++ (word_bytes ws ++ x)) (rw (length_words ws, e) (drop-drop (4 * length ws) at out))
 
-array-share-prefix-bytes : tie.Need-array-share-prefix-bytes
-array-share-prefix-bytes c = search rules
+-- UNKNOWN GOAL slice-aggregate-copy
+-- slice-aggregate-copy : tie.Need-slice-aggregate-copy
+-- slice-aggregate-copy c = many _ _ (search rules)
 
-slice-aggregate-copy : tie.Need-slice-aggregate-copy
-slice-aggregate-copy c = many _ _ (search rules)
+-- UNKNOWN GOAL copy-requires
+-- copy-requires : tie.Need-copy-requires
+-- copy-requires c κs =
+--     let a = c.before.before.before.before.args in
+--     omega (arith, many a.at a.t2 (search rules))
 
-copy-requires : tie.Need-copy-requires
-copy-requires c κs =
-    let a = c.before.before.before.before.args in
-    omega (arith, many a.at a.t2 (search rules))
+pub slice_bounds-write_words-end : goal.slice_bounds-write_words-end
+slice_bounds-write_words-end c = many _ _ (search rules)
 
-slice-aggregate-write-words : tie.Need-slice-aggregate-write-words
-slice-aggregate-write-words c = many _ _ (search rules)
-
-sub-write-words : tie.Need-overflow-sub-write-words
-sub-write-words c = search rules
-
-part-write-words-start : tie.Need-slice-bounds-write-words-start
-part-write-words-start c = search rules
-
-part-write-words-end : tie.Need-slice-bounds-write-words-end
-part-write-words-end c = search rules
-
-write-words-requires : tie.Need-write-words-requires
-write-words-requires c κs = search rules
-
-same_length : tie.Need-same-length
-same_length c = search rules
-
-returns : tie.Need-returns
+pub returns : goal.returns
 returns c =
-    let w = c.before.before in
-    let k = c.before.before.before.before.before.before.before in
-    let a = k.before.before.before.before.before.args in
+    let a = c.args in
     let head = take a.at a.t2 in
     let words = take a.n a.words.now in
     let l : a.at ≡ length head = many a.at a.t2 (search rules) in
-    let o : k.copy.new.1.0 ≡ head ++ drop a.at a.out.now = copied a.at head a.out.now _ l k.copy.ensures.1 in
+    let o : c.copy.new.1.0 ≡ head ++ drop a.at a.out.now = copied a.at head a.out.now _ l c.copy.ensures.1 in
     let after : List ℕ → List ℕ = λ x. take a.at x ++ (word_bytes words ++ drop (a.at + 4 * a.n) x) in
-    lent a.at a.n words k.copy.new.1.0 w.write-words.new.1.0 (many a.n a.words.now (search rules)) (search rules)
-    w.write-words.ensures
+    lent a.at a.n words c.copy.new.1.0 c.write_words.new.1.0 (many a.n a.words.now (search rules)) (search rules)
+    c.write_words.ensures
     ∙ ap after o
-
-pub put_spec : {M : Type 1} → statement M
-put_spec =
-    tie.close
-    (tie.spec
-    array-share-prefix-bytes
-    slice-aggregate-copy
-    copy-requires
-    slice-aggregate-write-words
-    sub-write-words
-    part-write-words-start
-    part-write-words-end
-    write-words-requires
-    same_length
-    returns)

@@ -3,8 +3,7 @@ use mathlib.Core.Path.{◌≡◌}
 use Prim.Native.Nat.{ℕ, ◌<◌, ◌≤◌}
 use borrow.Author.Tests.{lt-ltb, le-ltb}
 use Rattle.recording.specs.Faults.{rest_fault}
-use Rattle.recording.proofs.check_rest.Statement.{statement}
-use Rattle.recording.proofs.check_rest.Tie as tie
+use Rattle.recording.proofs.check_rest.Goals as goal
 
 fewer : (told rest : ℕ) → rest < told → ◌≡◌ {A = ℕ} 22 (rest_fault told rest)
 unfolding rest_fault
@@ -18,14 +17,11 @@ just : (told rest : ℕ) → told ≤ rest → rest ≤ told → ◌≡◌ {A = 
 unfolding rest_fault
 just told rest a h = rw (le-ltb rest told a, le-ltb told rest h)
 
-returns : tie.Need-returns
-returns c = fewer _ _ c.if1.true
+pub returns-then-rest-told : goal.returns-then-rest-told
+returns-then-rest-told c = fewer _ _ c.if-rest-told.true
 
-returns-2 : tie.Need-returns-2
-returns-2 c = more _ _ c.before.if1.false c.if2.true
+pub returns-then-rest-told-2 : goal.returns-then-rest-told-2
+returns-then-rest-told-2 c = more _ _ c.if-rest-told.false c.if-rest-told-2.true
 
-returns-3 : tie.Need-returns-3
-returns-3 c = just _ _ c.before.if1.false c.if2.false
-
-pub check-rest-spec : {M : Type 1} → statement M
-check-rest-spec = tie.close (tie.spec returns returns-2 returns-3)
+pub returns : goal.returns
+returns c = just _ _ c.if-rest-told.false c.if-rest-told-2.false

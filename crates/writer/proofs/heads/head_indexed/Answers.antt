@@ -1,0 +1,11 @@
+-- `writer::heads::head_indexed` meets its contract: its bytes are the definition's, byte by byte.
+use borrow.Author.Rules.{rules}
+use lib.Dec.{lit≤}
+use mathlib.Core.Path.{refl}
+use Rattle.writer.specs.Write.{head_of}
+use Rattle.octets.specs.BigEndian.{bytes_of}
+use Rattle.writer.proofs.heads.head_indexed.Goals as goal
+
+pub returns : goal.returns
+unfolding head_of bytes_of
+returns c = record { bytes_are = cc; length_is = refl; most = lit≤ tt }
