@@ -1,4 +1,6 @@
 // Refusals, units, commands and vertex formats as words of 32 bits: what crosses to C and Rust beside the state.
+#![tactic(auto)]
+
 mod attributes;
 mod commands;
 

@@ -1,4 +1,6 @@
 // Runs of BP loads and of XF loads, off a plain slice of bytes, where they lie whole from a place on while no draw is open.
+#![tactic(auto)]
+
 ghost use Rattle.walk.specs.Moves.{MovesBp, MovesXf};
 ghost use Rattle.loading.specs.Inner.{HeadOf};
 

@@ -29,6 +29,6 @@ slice_bounds-apply-end-2 c = sym (length-take-le _ _ (search rules))
 pub returns : goal.returns
 returns c =
     let a = c.args in
-    let e : take a.n c.copy.new.1.1.0 ≡ bytes_at a.cursor a.ring.now a.n =
+    let e : take a.n c.copy.new.out ≡ bytes_at a.cursor a.ring.now a.n =
     ap (take a.n) c.copy.ensures ∙ copied_is a.cursor a.ring.now (replicate 129 0) a.n (search rules) in
     rw (← e) c.apply-2.ensures

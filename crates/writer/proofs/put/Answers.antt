@@ -9,6 +9,8 @@ use lib.ListN.{length, take, drop}
 use lib.Seq.{length-take-le, take-length, drop-drop}
 use Rattle.octets.specs.BigEndian.{word_bytes, with_words}
 use Rattle.octets.proofs.Words.{length_words, words_lent}
+use lib.ListN.{length-append, length-drop}
+use borrow.Author.Rules.{rules}
 use Rattle.writer.proofs.put.Goals as goal
 
 -- the bytes copied are as many as were asked for, and so are the words
@@ -26,27 +28,19 @@ lent at n ws out v e h q =
     words_lent out ws v at (omega arith) q
     ∙ ap (λ (x : List ℕ). take at out ++ (word_bytes ws ++ x)) (rw (length_words ws, e) (drop-drop (4 * length ws) at out))
 
--- UNKNOWN GOAL slice-aggregate-copy
--- slice-aggregate-copy : tie.Need-slice-aggregate-copy
--- slice-aggregate-copy c = many _ _ (search rules)
-
--- UNKNOWN GOAL copy-requires
--- copy-requires : tie.Need-copy-requires
--- copy-requires c κs =
---     let a = c.before.before.before.before.args in
---     omega (arith, many a.at a.t2 (search rules))
-
 pub slice_bounds-write_words-end : goal.slice_bounds-write_words-end
 slice_bounds-write_words-end c = many _ _ (search rules)
 
 pub returns : goal.returns
 returns c =
     let a = c.args in
-    let head = take a.at a.t2 in
+    let head = take a.at a.bytes in
     let words = take a.n a.words.now in
-    let l : a.at ≡ length head = many a.at a.t2 (search rules) in
-    let o : c.copy.new.1.0 ≡ head ++ drop a.at a.out.now = copied a.at head a.out.now _ l c.copy.ensures.1 in
+    let v = c.copy_from_slice.new.self in
+    let l : length v ≡ a.at = ap length c.copy_from_slice.ensures.after ∙ sym (many a.at a.bytes (search rules)) in
+    let room : a.at + 4 * a.n ≤ length (v ++ drop a.at a.out.now) = simp (length-append, length-drop) (omega arith) in
+    let o : v ++ drop a.at a.out.now ≡ head ++ drop a.at a.out.now =
+    ap (λ (x : List ℕ). x ++ drop a.at a.out.now) c.copy_from_slice.ensures.after in
     let after : List ℕ → List ℕ = λ x. take a.at x ++ (word_bytes words ++ drop (a.at + 4 * a.n) x) in
-    lent a.at a.n words c.copy.new.1.0 c.write_words.new.1.0 (many a.n a.words.now (search rules)) (search rules)
-    c.write_words.ensures
+    lent a.at a.n words (v ++ drop a.at a.out.now) c.write_words.new.out (many a.n a.words.now (search rules)) room c.write_words.ensures
     ∙ ap after o

@@ -45,7 +45,7 @@ returns c =
     let addressed : unaddressed (numbers_of c.args.command) ≡ false = sym c.unaddressed.ensures ∙ c.if-unaddressed.false in
     let within : past_end (numbers_of c.args.command) ≡ false = sym c.past_end.ensures ∙ c.if-past_end.false in
     let at = c.head-head.result.length in
-    by_writing (numbers_of c.args.command) (c.args.words.now) (c.args.out.now) writable addressed within at c.words_named-n.result c.put.new.0
+    by_writing (numbers_of c.args.command) (c.args.words.now) (c.args.out.now) writable addressed within at c.words_named-n.result c.put.new.out
     c.head-head.ensures.length_is c.words_named-n.ensures.0 c.if-out-size.false
     (c.put.ensures
     ∙ ap (λ (x : List ℕ). head_then_words x at (c.args.words.now) c.words_named-n.result (c.args.out.now)) c.head-head.ensures.bytes_are)

@@ -1,0 +1,13 @@
+-- `encoding::commands::load_xf` meets its contract: the fields are tested for their bits.
+use borrow.Author.Tests.{lt-ltb, le-ltb}
+use borrow.Author.Rules.{rules}
+use Rattle.encoding.proofs.commands.load_xf.Goals as goal
+
+pub returns-then-words-ge256 : goal.returns-then-words-ge256
+returns-then-words-ge256 c = rw (le-ltb _ _ c.if-words-ge256.true)
+
+pub returns-then-address-ge65536 : goal.returns-then-address-ge65536
+returns-then-address-ge65536 c = rw (lt-ltb _ _ c.if-words-ge256.false, le-ltb _ _ c.if-address-ge65536.true)
+
+pub returns : goal.returns
+returns c = rw (lt-ltb _ _ c.if-words-ge256.false, lt-ltb _ _ c.if-address-ge65536.false)

@@ -1,0 +1,16 @@
+-- `loading::take_xf` meets its contract: each turn's load goes on where the last one ended.
+use mathlib.Core.Path.{◌≡◌, refl}
+use mathlib.Core.List.{[]}
+use Prim.Native.Nat.{◌-◌}
+use native.Mathlib.Omega.{arith}
+use lib.ListN.{length}
+use borrow.Author.Rules.{rules}
+use Rattle.walk.specs.Moves.{MovesXf}
+use Rattle.walk.proofs.Walks.{moves_none, moves_then}
+use Rattle.loading.proofs.take_xf.Given as goal
+
+abbrev pub invariant-loop-units : goal.invariant-loop-units
+invariant-loop-units l = (length l.xf ≡ length l.initial.xf) × MovesXf l.bytes l.from l.initial.xf l.most l.units l.at l.xf
+
+abbrev pub decreases-loop-units : goal.decreases-loop-units
+decreases-loop-units l = l.most - l.units
