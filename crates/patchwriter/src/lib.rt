@@ -1,4 +1,6 @@
 // A patch written as loads of the BP registers.
+#![tactic(auto)]
+
 ghost use Rattle.std.specs.Prelude.{◌≡◌, ◌+◌, ◌≤◌, ◌<◌, ◌^◌, length};
 ghost use Rattle.writer.specs.Write.{placed};
 ghost use Rattle.patch.specs.Patch.{patch_of, IsAccepted};

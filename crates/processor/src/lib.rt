@@ -1,6 +1,8 @@
 // The processor: one unit of the stream, looked at or taken (document 01's "bench").
-mod viewing;
-mod taking;
+#![tactic(auto)]
 
-pub use viewing::look;
+mod taking;
+mod viewing;
+
 pub use taking::{TakenUnit, take};
+pub use viewing::look;

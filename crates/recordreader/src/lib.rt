@@ -1,4 +1,6 @@
 // A recording's file read, whole or its head alone; it is searched whole before the first XF word is stored.
+#![tactic(auto)]
+
 ghost use Rattle.std.specs.Prelude.{◌≡◌, ◌+◌, ◌*◌, ◌≤◌, length};
 ghost use Rattle.octets.specs.BigEndian.{words_at};
 ghost use Rattle.command.specs.Look.{xf_count};

@@ -1,4 +1,6 @@
 // A recording's file written, whole or its head alone.
+#![tactic(auto)]
+
 ghost use Rattle.std.specs.Prelude.{◌≡◌, ◌+◌, ◌*◌, ◌≤◌, ◌<◌, ◌^◌, length};
 ghost use Rattle.octets.specs.BigEndian.{bytes_of};
 ghost use Rattle.command.specs.Look.{xf_count};

@@ -10,8 +10,7 @@ use Rattle.machine.specs.Gate.{registers_fit}
 use Rattle.recording.specs.Faults.{stream_limit}
 use Rattle.recording.specs.Answers.{content_refusal}
 use borrow.Author.Rules.{rules}
-use Rattle.recordwriter.proofs.test.Statement.{statement}
-use Rattle.recordwriter.proofs.test.Tie as tie
+use Rattle.recordwriter.proofs.test.Goals as goal
 
 module _ (cp bp : List ℕ) (xf stream : ℕ) where
   by-registers : registers_fit cp bp Closed ≡ false → ◌≡◌ {A = ℕ} 1 (content_refusal stream_limit cp bp xf stream)
@@ -31,28 +30,16 @@ module _ (cp bp : List ℕ) (xf stream : ℕ) where
     unfolding content_refusal
     sound x s = rw (f, eq-eqb xf xf_count x, le-leb stream stream_limit s)
 
-registers-fit-requires : tie.Need-registers-fit-requires
-registers-fit-requires c κs = search rules
+pub returns-then-not-registers_fit : goal.returns-then-not-registers_fit
+returns-then-not-registers_fit c = by-registers _ _ _ _ (sym c.registers_fit.ensures ∙ c.if-not-registers_fit.true)
 
-returns : tie.Need-returns
-returns c = by-registers _ _ _ _ (sym c.before.registers-fit.ensures ∙ not-true _ c.if1.true)
+pub returns-then-xf-ne-XF_LENGTH : goal.returns-then-xf-ne-XF_LENGTH
+returns-then-xf-ne-XF_LENGTH c = by_words _ _ _ _ (sym c.registers_fit.ensures ∙ c.if-not-registers_fit.false) c.if-xf-ne-XF_LENGTH.true
 
-returns-2 : tie.Need-returns-2
-returns-2 c = by_words _ _ _ _ (sym c.before.before.registers-fit.ensures ∙ not-false _ c.before.if1.false) c.if2.true
+pub returns-then-stream : goal.returns-then-stream
+returns-then-stream c =
+    by_stream _ _ _ _ (sym c.registers_fit.ensures ∙ c.if-not-registers_fit.false) c.if-xf-ne-XF_LENGTH.false c.if-stream.true
 
-cast-if3 : tie.Need-overflow-cast-if3
-cast-if3 c = search rules
-
-returns-3 : tie.Need-returns-3
-returns-3 c =
-    let b = c.before.before in
-    by_stream _ _ _ _ (sym b.before.registers-fit.ensures ∙ not-false _ b.if1.false) c.before.if2.false c.if3.true
-
-returns-4 : tie.Need-returns-4
-returns-4 c =
-    let b = c.before.before in
-    sound _ _ _ _ (sym b.before.registers-fit.ensures ∙ not-false _ b.if1.false) c.before.if2.false c.if3.false
-
-pub test-spec : {M : Type 1} → statement M
-test-spec =
-    tie.close (tie.spec registers-fit-requires returns returns-2 cast-if3 returns-3 returns-4)
+pub returns : goal.returns
+returns c =
+    sound _ _ _ _ (sym c.registers_fit.ensures ∙ c.if-not-registers_fit.false) c.if-xf-ne-XF_LENGTH.false c.if-stream.false

@@ -1,0 +1,8 @@
+-- `patchwriter::put` meets its contract: the load has room and 24 bits, so it is written over the front of what is lent.
+use borrow.Author.Rules.{rules}
+use Rattle.patchwriter.proofs.Writing.{put_done}
+use Rattle.patchwriter.proofs.put.Goals as goal
+
+pub returns : goal.returns
+returns c =
+    put_done _ c.write.new.1.1.0 _ _ _ c.requires.0 c.requires.1 c.write.ensures

@@ -1,0 +1,21 @@
+-- `recordreader::fill` meets its contract: after i turns the first i numbers stand there.
+use mathlib.Core.Path.{◌≡◌, refl}
+use mathlib.Core.List.{List}
+use Prim.Native.Nat.{ℕ, ◌+◌, ◌-◌, ◌*◌, ◌<◌, ◌≤◌}
+use native.Mathlib.Omega.{arith}
+use lib.ListN.{length, take, length-set}
+use Rattle.laws.specs.Values.{up_to}
+use Rattle.laws.proofs.Filled.{fill_none, fill_next, fill_all}
+use Rattle.octets.specs.BigEndian.{big_endian}
+use borrow.Author.Rules.{rules}
+use Rattle.recordreader.proofs.fill.Given as goal
+
+-- number i from a place on
+abbrev pub word : List ℕ → ℕ → ℕ → ℕ
+word file at i = big_endian file (at + 4 * i) 4
+
+abbrev pub invariant-loop-i : goal.invariant-loop-i
+invariant-loop-i l = (l.i ≤ length l.out) × ((length l.out ≡ length l.initial.out) × (take l.i l.out ≡ up_to (word l.file l.at) l.i))
+
+abbrev pub decreases-loop-i : goal.decreases-loop-i
+decreases-loop-i l = length l.initial.out - l.i

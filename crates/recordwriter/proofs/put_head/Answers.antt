@@ -1,0 +1,14 @@
+-- `recordwriter::put_head` meets its contract: the three sections and the count stand one after the other.
+use borrow.Author.Rules.{rules}
+use native.Mathlib.Omega.{arith}
+use Rattle.recordwriter.proofs.Putting.{head_put}
+use Rattle.recordwriter.proofs.put_head.Goals as goal
+
+pub overflow_cast-stream : goal.overflow_cast-stream
+overflow_cast-stream c =
+    omega (arith, c.requires.1.1)
+
+pub returns : goal.returns
+returns c =
+    head_put _ _ _ _ (search rules) (search rules) c.requires.1.0 _ _ _ _ _ c.requires.0 c.put_section.ensures
+    c.put_section-2.ensures c.put_section-3.ensures c.put_number.ensures

@@ -1,0 +1,10 @@
+-- `recordwriter::put_section` meets its contract: the count, and the numbers behind it.
+use Rattle.recordwriter.proofs.Putting.{section_put}
+use borrow.Author.Rules.{rules}
+use Rattle.recordwriter.proofs.put_section.Goals as goal
+
+pub returns : goal.returns
+returns c =
+    let a = c.args in
+    section_put a.out.now c.put_number.new.0 _ a.numbers.now a.at c.requires.0 c.put_number.ensures
+    c.write_words.ensures
