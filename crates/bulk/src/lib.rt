@@ -1,4 +1,6 @@
 // Many units at once, off the front of a plain slice of bytes.
+#![tactic(auto)]
+
 mod draws;
 mod loads;
 mod straight;

@@ -77,15 +77,12 @@ module _ (cp bp xf : List ℕ) (n : ℕ) (of_cp : length cp ≡ cp_count) (of_bp
       record { out_is = four; size = head_length cp bp xf n of_cp of_bp of_xf }
 
 -- the stream behind a head
-pub stream_put : (cp bp xf stream out o v : List ℕ) → HeadOver cp bp xf (length stream) out o → stream_at ≤ length out
-    → v ≡ take (length stream) stream ++ drop (length stream) (take (length o - stream_at) (drop stream_at o))
-    → put_mid stream_at (length o - stream_at) o v ≡ over out 0 (file_bytes (recording_of cp bp xf stream))
+pub stream_put : (cp bp xf stream out o v : List ℕ) → HeadOver cp bp xf (length stream) out o → stream_at ≤ length out → v ≡ stream
+    → put_mid stream_at (stream_at + length stream - stream_at) o v ≡ over out 0 (file_bytes (recording_of cp bp xf stream))
 unfolding file_bytes
 stream_put cp bp xf stream out o v p h q =
     let head : List ℕ = head_bytes cp bp xf (length stream) in
-    let part : List ℕ = take (length o - stream_at) (drop stream_at o) in
-    let all : v ≡ stream ++ drop (length stream) part =
-    q ∙ ap (λ (x : List ℕ). x ++ drop (length stream) part) (take-length stream) in
-    lent_rest o stream v stream_at all
-    ∙ ap (λ (x : List ℕ). over x stream_at stream) p.out_is
-    ∙ over_next out head stream 0 stream_at (omega arith) (omega (arith, p.size))
+    let n : stream_at + length stream - stream_at ≡ length stream = omega arith in
+    rw (q, n)
+    (ap (λ (x : List ℕ). over x stream_at stream) p.out_is
+    ∙ over_next out head stream 0 stream_at (omega arith) (omega (arith, p.size)))

@@ -1,4 +1,6 @@
 // Attributes of a vertex as words, ten for each, the kind and nine values: one alone, or all 21 in order.
+#![tactic(auto)]
+
 mod components;
 
 ghost use Rattle.std.specs.Prelude.{◌≡◌, ◌+◌, ◌*◌, ◌<◌, ◌≤◌, length};

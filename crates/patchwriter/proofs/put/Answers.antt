@@ -5,4 +5,4 @@ use Rattle.patchwriter.proofs.put.Goals as goal
 
 pub returns : goal.returns
 returns c =
-    put_done _ c.write.new.1.1.0 _ _ _ c.requires.0 c.requires.1 c.write.ensures
+    put_done _ c.write.new.out _ _ _ c.requires.0 c.requires.1 c.write.ensures

@@ -16,44 +16,9 @@ use Rattle.patchwriter.proofs.Writing.{Writing, writing_none, writing_skip, writ
 use Rattle.patch.specs.Patch.{bp_count, Patch, patch_of, mask_at, number_at}
 use Rattle.patchwriter.proofs.put_all.Goals as goal
 
--- at a register that is named: the patch, the register, and the two loads that are next
-abbrev Named : Type 0
-Named = tie.Else1 invariant-loop decreases-loop
-
-abbrev of : Named → Patch
-of c = let b = c.before.before.before.before.before.before.before in patch_of b.args.masks.now b.args.numbers.now
-
-abbrev reg : Named → ℕ
-reg c = c.before.before.before.loop.r
-
-in-range : (c : Named) → reg c < bp_count
-in-range c = omega arith
-
-sound-of : (c : Named) → Sound (of c)
-sound-of c = sound (of c) c.before.before.before.before.before.before.before.requires.0
-
-abbrev second : Named → List ℕ
-second c = command_bytes (load_bp (reg c) (number_at (of c) (reg c))) [] ++ bytes_from (reg c + 1) (of c)
-
-abbrev start : Named → List ℕ
-start c = c.before.before.before.before.before.before.before.args.out.now
-
-named : (c : Named)
-    → Pieces (patch_bytes (of c)) (start c) c.before.before.before.loop.out c.before.before.before.loop.at
-    (command_bytes (load_bp mask_place (mask_at (of c) (reg c))) [] ++ second c)
-named c = writing_named c.before.before.before.loop.invariant.1 (in-range c) c.if1.false
-
--- after the first load
-abbrev Once : Type 0
-Once = tie.After-shared-slice-known4 invariant-loop decreases-loop
-
-abbrev at_named : Once → Named
-at_named c = c.before.before.before.before.before.before
-
-once : (c : Once)
-    → Pieces (patch_bytes (of (at_named c))) (start (at_named c)) c.before.before.before.before.put.new.0
-    c.before.before.before.before.put.result (second (at_named c))
-once c = writing_put (named (at_named c)) c.before.before.before.before.put.ensures
+-- the load of a register, and those behind it
+abbrev second : Patch → ℕ → List ℕ
+second p r = command_bytes (load_bp r (number_at p r)) [] ++ bytes_from (r + 1) p
 
 pub loop-r-init : goal.loop-r-init
 loop-r-init c = (omega arith, writing_none _ _ c.requires.1)
@@ -68,21 +33,34 @@ loop-r-preserved-then-mask-eq0 c =
 
 pub put-at-requires : goal.put-at-requires
 put-at-requires c =
-    (load_fits _ _ (second n) (named n), (sound-of n).small (reg n) (in-range n))
+    let p : Patch = patch_of c.args.masks.now c.args.numbers.now in
+    let r : ℕ = c.loop-r.r in
+    let inside : r < bp_count = omega arith in
+    let s : Sound p = sound p c.requires.0 in
+    (load_fits _ _ (second p r) (writing_named c.loop-r.invariant.1 inside c.if-mask-eq0.false), s.small r inside)
 
 pub bounds-numbers-r : goal.bounds-numbers-r
-bounds-numbers-r c = omega (arith, in-range (at_named c), (sound-of (at_named c)).numbers_size)
+bounds-numbers-r c = omega (arith, (sound (patch_of c.args.masks.now c.args.numbers.now) c.requires.0).numbers_size)
 
 pub put-at-requires-in-loop-r : goal.put-at-requires-in-loop-r
 put-at-requires-in-loop-r c =
-    let n = at_named c in
-    let fits = load_fits _ _ (bytes_from (reg n + 1) (of n)) (once c) in
+    let p : Patch = patch_of c.args.masks.now c.args.numbers.now in
+    let r : ℕ = c.loop-r.r in
+    let inside : r < bp_count = omega arith in
+    let named = writing_named c.loop-r.invariant.1 inside c.if-mask-eq0.false in
+    let once : Pieces (patch_bytes p) c.args.out.now c.put-at.new.out c.put-at.result (second p r) = writing_put named c.put-at.ensures in
+    let fits = load_fits _ _ (bytes_from (r + 1) p) once in
     let next = c.put-at.ensures.next_is in
-    (omega (arith, fits, next), number_small (of n) (sound-of n) (reg n) (in-range n))
+    (omega (arith, fits, next), number_small p (sound p c.requires.0) r inside)
 
 pub loop-r-preserved : goal.loop-r-preserved
 loop-r-preserved c =
-    (omega (arith, in-range (at_named o)), record { pieces = writing_put (once o) c.put-at-in-loop-r.ensures })
+    let p : Patch = patch_of c.args.masks.now c.args.numbers.now in
+    let r : ℕ = c.loop-r.r in
+    let inside : r < bp_count = omega arith in
+    let named = writing_named c.loop-r.invariant.1 inside c.if-mask-eq0.false in
+    let once : Pieces (patch_bytes p) c.args.out.now c.put-at.new.out c.put-at.result (second p r) = writing_put named c.put-at.ensures in
+    (omega arith, record { pieces = writing_put once c.put-at-in-loop-r.ensures })
 
 pub shape_of-out : goal.shape_of-out
 shape_of-out c = pieces_length c.loop-r.invariant.1.pieces

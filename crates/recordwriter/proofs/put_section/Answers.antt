@@ -6,5 +6,5 @@ use Rattle.recordwriter.proofs.put_section.Goals as goal
 pub returns : goal.returns
 returns c =
     let a = c.args in
-    section_put a.out.now c.put_number.new.0 _ a.numbers.now a.at c.requires.0 c.put_number.ensures
+    section_put a.out.now c.put_number.new.out _ a.numbers.now a.at c.requires.0 c.put_number.ensures
     c.write_words.ensures

@@ -38,4 +38,4 @@ returns c =
     let room = c.if-out-size.false in
     let put = c.put_head.ensures in
     all_written _ _ _ _ _ (write_accepted _ _ _ _ _ e room) (file_length _ _ _ _ put.size)
-    (stream_put _ _ _ _ _ _ _ put (omega (arith, room)) c.copy.ensures.1)
+    (stream_put _ _ _ _ _ _ _ put (omega (arith, room)) c.copy_from_slice.ensures.after)

@@ -7,4 +7,4 @@ use borrow.Author.Rules.{rules}
 use Rattle.encoding.proofs.attributes.raw_list.Goals as goal
 
 pub returns : goal.returns
-returns c = ap (λ (l : List ℕ). c.args.count ∷ l) (nine c.args.t2 (search rules))
+returns c = ap (λ (l : List ℕ). c.args.count ∷ l) (nine c.args.w (search rules))

@@ -1,0 +1,12 @@
+-- By the number of the attribute.
+use borrow.Author.Tests.{ne_eqb}
+use Rattle.whole.proofs.kind.Goals as goal
+
+pub returns-in-9 : goal.returns-in-9
+returns-in-9 c = rw c.in-9.is
+
+pub returns-in-10 : goal.returns-in-10
+returns-in-10 c = rw c.in-10.is
+
+pub returns-in_default : goal.returns-in_default
+returns-in_default c = let k = c.args.k in rw (ne_eqb k 9 c.in_default.in_default-own.rest.0.1, ne_eqb k 10 c.in_default.in_default-own.rest.1)
