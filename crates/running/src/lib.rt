@@ -1,4 +1,6 @@
 // A run of units: takings until the limit, waiting or a refusal.
+#![tactic(auto)]
+
 mod stretch;
 mod units;
 

@@ -14,7 +14,7 @@ use Rattle.whole.proofs.put.Goals as goal
 pub loop-i-init : goal.loop-i-init
 loop-i-init c =
     let a = c.args in
-    record { below = omega arith; many = refl; done = put_none a.values.now a.at a.t3 }
+    record { below = omega arith; many = refl; done = put_none a.values.now a.at a.words }
 
 pub overflow_add-values : goal.overflow_add-values
 overflow_add-values c = omega (arith, c.requires)
@@ -28,11 +28,11 @@ bounds-values-at c = omega (arith, c.requires, c.loop-i.invariant.many)
 pub loop-i-preserved : goal.loop-i-preserved
 loop-i-preserved c =
     let lp = c.loop-i in
-    let ten : length c.args.t3 ≡ 10 = search rules in
+    let ten : length c.args.words ≡ 10 = search rules in
     record {
       below = omega arith;
       many = simp length-set lp.invariant.many;
-      done = put_next c.args.values.now c.args.t3 c.args.at lp.i (omega arith)
+      done = put_next c.args.values.now c.args.words c.args.at lp.i (omega arith)
           (omega (arith, c.requires)) lp.invariant.done;
     }
 
@@ -43,8 +43,8 @@ pub returns : goal.returns
 returns c =
     let lp = c.loop-i in
     let a = c.args in
-    let ten : length a.t3 ≡ 10 = search rules in
+    let ten : length a.words ≡ 10 = search rules in
     let e : lp.i ≡ 10 = omega arith in
-    lp.invariant.done ∙ ap (λ (n : ℕ). take a.at a.values.now ++ (take n a.t3 ++ drop (a.at + n) a.values.now)) e
-    ∙ ap (λ (x : List ℕ). take a.at a.values.now ++ (x ++ drop (a.at + 10) a.values.now)) (take_all 10 a.t3
+    lp.invariant.done ∙ ap (λ (n : ℕ). take a.at a.values.now ++ (take n a.words ++ drop (a.at + n) a.values.now)) e
+    ∙ ap (λ (x : List ℕ). take a.at a.values.now ++ (x ++ drop (a.at + 10) a.values.now)) (take_all 10 a.words
     (le_of_eq ten))

@@ -38,7 +38,7 @@ loop-k-preserved c =
     let l = c.args.vertex.now in
     let vcd = c.args.d.vcd0 in
     let h : lp.k < 9 = c.loop-k-test.true in
-    let one : (d : Descriptor) → d.vcd0 ≡ vcd → TellsFrom d l lp.k (lp.k + 1) lp.values (lp.at + vcd / 2 ^ lp.k % 2) c.put.new.0 =
+    let one : (d : Descriptor) → d.vcd0 ≡ vcd → TellsFrom d l lp.k (lp.k + 1) lp.values (lp.at + vcd / 2 ^ lp.k % 2) c.put.new.values =
     λ d e. matrix_told d l lp.k lp.values c.matrix_words.result lp.at (vcd / 2 ^ lp.k % 2) h lp.invariant.many
     (lp.invariant.moved d e).at_is (bit_is d vcd lp.k e h) c.matrix_words.ensures c.put.ensures in
     record {
