@@ -1,5 +1,5 @@
 -- `running::units::take_units` meets its contract: the whole run is the units taken and the run from here.
-use mathlib.Core.Path.{◌≡◌, refl, ap}
+use mathlib.Core.Path.{◌≡◌, refl, ap, ◌∙◌}
 use mathlib.Core.Logic.{◌⊎◌, inl, inr}
 use mathlib.Core.List.{List}
 use Prim.Native.Nat.{ℕ, ◌+◌, ◌-◌, ◌≤◌}
@@ -31,117 +31,70 @@ pub loop-units-init : goal.loop-units-init
 loop-units-init c =
     let a = c.args in
     let s = state_of a.fifo a.cp.now a.bp.now a.first a.xf.now a.buffer.now in
-    (refl, (refl, (refl, course_begins a.ring.now a.limit s c.requires c.«open».ensures)))
+    (refl, (refl, (refl, course_begins a.ring.now a.limit s c.requires c.open-cursor.ensures)))
 
 pub overflow_sub-limit : goal.overflow_sub-limit
 overflow_sub-limit c = c.loop-units.invariant.1.1.1.within
 
 pub overflow_add-units : goal.overflow_add-units
 overflow_add-units c =
-    let few : c.take_stretch-ahead.result.units ≤ (start_of
-    c.before.before.before.before.before).args.limit - c.loop-units.units = c.take_stretch-ahead.ensures.0.taken.within in
-    omega (arith, few, c.fits.limit)
-
-pub shape_of-bp-then-limit-units : goal.shape_of-bp-then-limit-units
-shape_of-bp-then-limit-units c =
-    search (rules, c.loop-units.invariant.0, c.bp-1)
-
-pub shape_of-xf-then-limit-units : goal.shape_of-xf-then-limit-units
-shape_of-xf-then-limit-units c =
-    search (rules, c.loop-units.invariant.1.0, c.xf-1)
-
-pub shape_of-buffer-then-limit-units : goal.shape_of-buffer-then-limit-units
-shape_of-buffer-then-limit-units c =
-    search (rules, c.loop-units.invariant.1.1.0, c.buffer-1)
+    let few : c.take_stretch-ahead.result.units ≤ c.args.limit - c.loop-units.units = c.take_stretch-ahead.ensures.0.taken.within in
+    omega (arith, few, c.ranges.limit)
 
 pub returns-then-limit-units : goal.returns-then-limit-units
 returns-then-limit-units c =
-    let octets : Octets c.args.ring.now = λ k. (c.shared_slice_known-1.given k).fits in
+    let octets : Octets c.args.ring.now = λ k. (c.type_inv.ring k).fits in
     let gone : let s = c.args in
     let z = c.take_stretch-ahead.new in
     Course s.ring.now s.limit (state_of s.fifo s.cp.now s.bp.now s.first s.xf.now s.buffer.now)
     c.take_stretch-ahead.result.cursor
-    z.1.1.0 z.1.1.1.0 c.take_stretch-ahead.result.draw z.1.1.1.1.1.0 z.1.1.1.1.1.1.0
+    z.cp z.bp c.take_stretch-ahead.result.draw z.xf z.buffer
     (c.loop-units.units + c.take_stretch-ahead.result.units) = course_stretch _ octets c.loop-units.invariant.1.1.1 c.take_stretch-ahead.ensures.0
     (omega (arith, c.loop-units.invariant.1.1.1.within)) in
-    course_ends c.pre gone c.if-limit-units.true c.close.ensures
+    course_ends c.requires gone c.if-limit-units.true c.close.ensures
 
 pub take_next-moved-requires : goal.take_next-moved-requires
 take_next-moved-requires c =
     c.take_stretch-ahead.ensures.1
 
-pub shape_of-bp-in_default : goal.shape_of-bp-in_default
-shape_of-bp-in_default c =
-    let l = c.loop-units.inv in
-    search (
-      rules,
-      l.0,
-      c.bp-1,
-      c.bp-in-loop-units-1,
-    )
-
-pub shape_of-xf-in_default : goal.shape_of-xf-in_default
-shape_of-xf-in_default c =
-    let l = c.loop-units.inv in
-    search (rules, l.1.0, c.xf-1, c.xf-in-loop-units-1)
-
-pub shape_of-buffer-in_default : goal.shape_of-buffer-in_default
-shape_of-buffer-in_default c =
-    let l = c.loop-units.inv in
-    search (rules, l.1.1.0, c.buffer-1, c.buffer-in-loop-units-1)
-
 pub returns-in_default : goal.returns-in_default
 returns-in_default c =
-    let octets : Octets c.args.ring.now = λ k. (c.shared_slice_known-1.given k).fits in
+    let octets : Octets c.args.ring.now = λ k. (c.type_inv.ring k).fits in
     let gone : let s = c.args in
     let z = c.take_stretch-ahead.new in
     Course s.ring.now s.limit (state_of s.fifo s.cp.now s.bp.now s.first s.xf.now s.buffer.now)
     c.take_stretch-ahead.result.cursor
-    z.1.1.0 z.1.1.1.0 c.take_stretch-ahead.result.draw z.1.1.1.1.1.0 z.1.1.1.1.1.1.0
+    z.cp z.bp c.take_stretch-ahead.result.draw z.xf z.buffer
     (c.loop-units.units + c.take_stretch-ahead.result.units) = course_stretch _ octets c.loop-units.invariant.1.1.1 c.take_stretch-ahead.ensures.0
     (omega (arith, c.loop-units.invariant.1.1.1.within)) in
     course_stops _ octets gone c.if-limit-units.false (takes_course gone c.take_next-moved.ensures)
     (not_done c.take_next-moved.result.answer (opened c.in_default.in_default-own.keys2)) c.stop_for.ensures c.close-in_default.ensures
-    c.pre
+    c.requires
 
 pub overflow_add-units-in-loop-units : goal.overflow_add-units-in-loop-units
 overflow_add-units-in-loop-units c =
-    omega (arith, c.if-limit-units.false, c.fits.limit)
+    omega (arith, c.if-limit-units.false, c.ranges.limit)
 
 pub loop-units-smaller : goal.loop-units-smaller
 loop-units-smaller c =
-    let few : c.take_stretch-ahead.result.units ≤ (start_of
-    c.before.before.before.before.before).args.limit - c.loop-units.units = c.take_stretch-ahead.ensures.0.taken.within in
+    let few : c.take_stretch-ahead.result.units ≤ c.args.limit - c.loop-units.units = c.take_stretch-ahead.ensures.0.taken.within in
     omega (arith, few, c.if-limit-units.false)
 
 pub loop-units-preserved : goal.loop-units-preserved
 loop-units-preserved c =
-    let octets : Octets c.args.ring.now = λ k. (c.shared_slice_known-1.given k).fits in
+    let octets : Octets c.args.ring.now = λ k. (c.type_inv.ring k).fits in
     let gone : let s = c.args in
     let z = c.take_stretch-ahead.new in
     Course s.ring.now s.limit (state_of s.fifo s.cp.now s.bp.now s.first s.xf.now s.buffer.now)
     c.take_stretch-ahead.result.cursor
-    z.1.1.0 z.1.1.1.0 c.take_stretch-ahead.result.draw z.1.1.1.1.1.0 z.1.1.1.1.1.1.0
+    z.cp z.bp c.take_stretch-ahead.result.draw z.xf z.buffer
     (c.loop-units.units + c.take_stretch-ahead.result.units) = course_stretch _ octets c.loop-units.invariant.1.1.1 c.take_stretch-ahead.ensures.0
     (omega (arith, c.loop-units.invariant.1.1.1.within)) in
-    let l = c.loop-units.inv in (
-      search (
-        rules,
-        l.0,
-        c.bp-1,
-        c.bp-in-loop-units-1,
-      ),
+    let on =
+    course_goes _ octets gone c.if-limit-units.false (takes_course gone c.take_next-moved.ensures) _ _ _ (ap meaning c.in-Done.is) in (
+      c.take_next-moved.auto.bp ∙ c.take_stretch-ahead.auto.bp ∙ c.loop-units.invariant.0,
       (
-        search (
-          rules,
-          l.1.0,
-          c.xf-1,
-          c.xf-in-loop-units-1,
-        ),
-        (
-          search (rules, l.1.1.0, c.buffer-1, c.buffer-in-loop-units-1),
-          course_goes _ octets gone c.if-limit-units.false (takes_course gone c.take_next-moved.ensures) _ _ _
-              (ap meaning c.in-Done.is),
-        ),
+        c.take_next-moved.auto.xf ∙ c.take_stretch-ahead.auto.xf ∙ c.loop-units.invariant.1.0,
+        (c.take_next-moved.auto.buffer ∙ c.take_stretch-ahead.auto.buffer ∙ c.loop-units.invariant.1.1.0, on),
       ),
     )

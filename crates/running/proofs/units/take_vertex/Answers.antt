@@ -15,7 +15,7 @@ slice_bounds-copy_vertex-end c = sym (length-take-le _ _ (search rules))
 pub returns : goal.returns
 returns c =
     let a = c.args in
-    let e : take a.size c.copy.new.1.1.0 ≡ bytes_at a.cursor a.ring.now a.size =
+    let e : take a.size c.copy.new.out ≡ bytes_at a.cursor a.ring.now a.size =
     ap (take a.size) c.copy.ensures ∙ copied_is a.cursor a.ring.now (replicate 129 0) a.size (search rules) in
     let v = c.copy_vertex.ensures in
     record { any = λ cp bp xf. takes_unit refl (by_vertex (rw (← e) v)) c.skip.ensures c.next_draw.ensures }
