@@ -1,4 +1,6 @@
 // What a look, a taking, a run and a writer answer, as numbers.
+#![tactic(auto)]
+
 ghost use Rattle.std.specs.Prelude.{◌≡◌};
 ghost use Rattle.unit.specs.Answers.{meaning};
 ghost use Rattle.running.specs.Run.{meaning_of_stop};

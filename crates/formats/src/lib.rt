@@ -1,4 +1,6 @@
 // A vertex format of five words: its layout, and the attributes of a vertex, on words.
+#![tactic(auto)]
+
 ghost use Rattle.encoding.specs.Named.{format_named};
 ghost use Rattle.formats.specs.Formats.{LaysOut, TellsAttribute, TellsAll, KeepsBits};
 

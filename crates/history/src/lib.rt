@@ -1,1 +1,2 @@
 // No code: what lists of calls promise together. Their vocabulary stands in specs/, the theorems in proofs/.
+#![tactic(auto)]

@@ -1,4 +1,6 @@
 // The state as 327 words of 32 bits that the caller keeps: read from them.
+#![tactic(auto)]
+
 ghost use Rattle.std.specs.Prelude.{◌≡◌, ◌+◌, ◌≤◌, length, take, drop};
 ghost use Rattle.words.specs.State.{window_of, left_of, cp_of, bp_of};
 ghost use Rattle.words.specs.Front.{front_of};
