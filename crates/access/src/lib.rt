@@ -1,4 +1,6 @@
 // The state's words and the ring: the fresh state, the hardware registers and feeding.
+#![tactic(auto)]
+
 ghost use Rattle.std.specs.Prelude.{◌≡◌};
 ghost use Rattle.words.specs.State.{fresh_words};
 ghost use Rattle.access.specs.Calls.{ReadsRegister, WritesRegister, Feeds};

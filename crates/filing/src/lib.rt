@@ -1,4 +1,6 @@
 // Recordings (document 02, L1) on the state's words: read and written, whole or the head alone.
+#![tactic(auto)]
+
 ghost use Rattle.std.specs.Prelude.{◌≡◌};
 ghost use Rattle.words.specs.State.{fifo_of, words_by};
 ghost use Rattle.recording.specs.Faults.{stream_limit, head_place, rest_fault};

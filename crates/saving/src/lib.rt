@@ -1,4 +1,6 @@
 // The state stored in the 327 words: all of them, or those that a call changed.
+#![tactic(auto)]
+
 ghost use Rattle.std.specs.Prelude.{◌≡◌, ◌+◌, ◌≤◌, length};
 ghost use Rattle.command.specs.Command.{kind_of, numbers_of};
 ghost use Rattle.queue.specs.Feeding.{put};

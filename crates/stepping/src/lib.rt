@@ -1,4 +1,6 @@
 // Looking at a unit and taking one, on the state's words.
+#![tactic(auto)]
+
 ghost use Rattle.std.specs.Prelude.{◌≡◌, length};
 ghost use Rattle.machine.specs.State.{state_of};
 ghost use Rattle.processor.specs.Step.{Steps};

@@ -1,0 +1,12 @@
+-- `saving::save_control` meets its contract: one word is stored.
+use mathlib.Core.Path.{◌≡◌, ◌∙◌}
+use lib.ListN.{length}
+use Rattle.words.proofs.Places.{put_control}
+use borrow.Author.Rules.{rules}
+use Rattle.saving.proofs.save_control.Goals as goal
+
+pub returns : goal.returns
+returns c =
+    let l = c.args.state.now in
+    let k : length l ≡ 327 = search rules in
+    c.store.ensures ∙ put_control l k c.args.control
