@@ -1,4 +1,6 @@
 // Commands written, and patches (document 01's correction sheets) checked, merged and written.
+#![tactic(auto)]
+
 ghost use Rattle.std.specs.Prelude.{◌≡◌};
 ghost use Rattle.patch.specs.Patch.{patch_of, fault_of};
 ghost use Rattle.patch.specs.Answers.{meaning};

@@ -1,4 +1,6 @@
 // Running many units, on the state's words.
+#![tactic(auto)]
+
 ghost use Rattle.std.specs.Prelude.{◌≡◌, length};
 ghost use Rattle.machine.specs.Gate.{gate_by};
 ghost use Rattle.machine.specs.State.{state_of};

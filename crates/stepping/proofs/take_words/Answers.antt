@@ -12,5 +12,5 @@ returns c =
     let a = c.args in
     in_place a.state.now _ c.requires (search rules)
     (λ (b b' : List ℕ). Steps a.ring.now (state_of a.fifo a.cp.now b a.draw a.xf.now a.vertex.now) c.take.result
-    c.take.new.1.0 b' c.take.new.1.1.1.1.1.0 c.take.new.1.1.1.1.1.1.0)
+    c.take.new.cp b' c.take.new.xf c.take.new.buffer)
     c.take.ensures
