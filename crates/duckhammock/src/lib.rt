@@ -6,6 +6,8 @@
 // is told or was done or the limit was reached, 255 for waiting, and else the refusal's number. A refused or waiting call changes nothing
 // that it was lent, but that waiting tells how many bytes are lacking; a run keeps the units before the one that was refused or waits, and
 // its report is told whatever the answer. `duckhammock_find_recording_fault` refuses nothing, and returns a place in a file.
+#![tactic(auto)]
+
 ghost use Rattle.std.specs.Prelude.{◌≡◌};
 ghost use Rattle.patch.specs.Patch.{patch_of, fault_of};
 ghost use Rattle.running.specs.Run.{run_of};

@@ -13,5 +13,5 @@ returns c =
     in_place a.state.now _ c.requires (search rules)
     (λ (b b' : List ℕ). Reports
     (run_of a.ring.now a.limit (state_of a.fifo a.cp.now b a.draw a.xf.now a.vertex.now)) c.run.result
-    c.run.new.1.0 b' c.run.new.1.1.1.1.1.0 c.run.new.1.1.1.1.1.1.0)
+    c.run.new.cp b' c.run.new.xf c.run.new.buffer)
     c.run.ensures
