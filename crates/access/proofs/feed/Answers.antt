@@ -1,6 +1,5 @@
 -- `access::feed` meets its contract: the write pointer is stored, where the bytes are fed.
 use Rattle.access.proofs.Windows.{feeds_refused, feeds_done}
-use borrow.Author.Rules.{rules}
 use Rattle.access.proofs.feed.Goals as goal
 
 pub returns-in-Refused : goal.returns-in-Refused

@@ -2,7 +2,6 @@
 use mathlib.Core.Path.{ap, ◌∙◌}
 use Rattle.machine.specs.declared.Machine.{Machine}
 use Rattle.words.specs.State.{words_by}
-use borrow.Author.Rules.{rules}
 use Rattle.access.proofs.fresh.Goals as goal
 
 pub returns : goal.returns

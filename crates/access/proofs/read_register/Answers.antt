@@ -1,6 +1,5 @@
 -- `access::read_register` meets its contract: the control register is its word, and every other is read of the window.
 use Rattle.access.proofs.Windows.{reads_control, reads_refused, reads_done}
-use borrow.Author.Rules.{rules}
 use Rattle.access.proofs.read_register.Goals as goal
 
 pub returns-then-offset-eq-CONTROL : goal.returns-then-offset-eq-CONTROL

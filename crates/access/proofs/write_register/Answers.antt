@@ -1,6 +1,5 @@
 -- `access::write_register` meets its contract: the control word or the window is stored, where the register is written.
 use Rattle.access.proofs.Windows.{writes_refused, writes_control, writes_window}
-use borrow.Author.Rules.{rules}
 use Rattle.access.proofs.write_register.Goals as goal
 
 pub returns-in-Refused : goal.returns-in-Refused

@@ -1,5 +1,4 @@
 -- `answers::stop_lacking` meets its contract: in each arm the answer is known, and the definition computes.
-use borrow.Author.Rules.{rules}
 use Rattle.answers.proofs.stop_lacking.Goals as goal
 
 pub returns-in-Limit : goal.returns-in-Limit

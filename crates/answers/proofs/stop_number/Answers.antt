@@ -1,5 +1,4 @@
 -- `answers::stop_number` meets its contract: in each arm the answer is known, and the definition computes.
-use borrow.Author.Rules.{rules}
 use Rattle.answers.proofs.stop_number.Goals as goal
 
 pub returns-in-Refused : goal.returns-in-Refused

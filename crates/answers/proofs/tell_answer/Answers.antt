@@ -1,6 +1,5 @@
 -- `answers::tell_answer` meets its contract: in each arm the answer is known, and the definitions compute.
 use mathlib.Core.Path.{refl}
-use borrow.Author.Rules.{rules}
 use Rattle.answers.proofs.tell_answer.Goals as goal
 
 pub returns-in-Done : goal.returns-in-Done

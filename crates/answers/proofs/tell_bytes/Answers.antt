@@ -1,6 +1,5 @@
 -- `answers::tell_bytes` meets its contract: in each arm the answer is known.
 use Rattle.answers.proofs.Counted.{count_refused, count_done}
-use borrow.Author.Rules.{rules}
 use Rattle.answers.proofs.tell_bytes.Goals as goal
 
 pub returns-in-Refused : goal.returns-in-Refused

@@ -7,7 +7,6 @@ use lib.Ieee.{nan, binary32, of_bits, div}
 use lib.Ieee.Bits.{nan_bits_above}
 use borrow.Author.Tests.{lt-ltb}
 use native.Mathlib.Omega.{arith}
-use borrow.Author.Rules.{rules}
 use Rattle.component.proofs.NotNan.{not_nan}
 use Rattle.component.proofs.Patterns.{nan_bits_lem}
 use Rattle.component.proofs.of_bits.Goals as goal

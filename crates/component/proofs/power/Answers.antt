@@ -1,5 +1,4 @@
 -- One computed test over the 32 shifts: the pattern (127 - s) * 2 ^ 23 is 2 ^ -s.
-use borrow.Author.Rules.{rules}
 use native.Mathlib.Omega.{arith}
 use Rattle.component.proofs.TwoTo.{pattern}
 use Rattle.component.proofs.NotNan.{not_nan}

@@ -7,7 +7,6 @@ use mir.Syntax.{w16}
 use mir.ValLaws.{to_z-of_z}
 use Rattle.component.specs.Component.{Quotient}
 use Rattle.component.proofs.Complement.{size_lt}
-use borrow.Author.Rules.{rules}
 use Rattle.component.proofs.Exactly.{quotient}
 use Rattle.component.proofs.signed.Goals as goal
 

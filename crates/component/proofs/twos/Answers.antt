@@ -6,7 +6,6 @@ use mir.Syntax.{w16, w32}
 use mir.Val.{SFits}
 use mir.ValLaws.{to_z-of_z, to_z_pos}
 use Rattle.component.proofs.Complement.{difference, difference_fits, upper, lower}
-use borrow.Author.Rules.{rules}
 use Rattle.component.proofs.twos.Goals as goal
 
 pub overflow_sub-result : goal.overflow_sub-result

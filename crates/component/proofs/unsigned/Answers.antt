@@ -1,7 +1,6 @@
 -- The single nearest to a product that is exact is the product: `quotient`, at a power of two that `power` gives.
 use native.Mathlib.Omega.{arith}
 use lib.IntN.{pos}
-use borrow.Author.Rules.{rules}
 use Rattle.component.proofs.Exactly.{quotient}
 use Rattle.component.proofs.unsigned.Goals as goal
 

@@ -1,7 +1,6 @@
 -- In each arm the format is known and the definition computes; what is none of 0 to 3 has four bytes.
 use mathlib.Core.Path.{sym}
 use native.Mathlib.Omega.{arith}
-use borrow.Author.Rules.{rules}
 use Rattle.component.proofs.Widths.{width_single}
 use Rattle.component.proofs.width.Goals as goal
 

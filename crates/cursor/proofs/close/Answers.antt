@@ -1,7 +1,6 @@
 -- `cursor::close` meets its contract: the test is the definition's.
 use borrow.Author.Tests.{lt-ltb, le-ltb}
 use Rattle.cursor.specs.Cursor.{closed}
-use borrow.Author.Rules.{rules}
 use Rattle.cursor.proofs.close.Goals as goal
 
 pub returns-then-at-minus : goal.returns-then-at-minus

@@ -1,7 +1,6 @@
 -- `cursor::forward` meets its contract: the test tells whether the end is passed.
 use borrow.Author.Tests.{lt-ltb, le-ltb}
 use Rattle.cursor.specs.Cursor.{onward}
-use borrow.Author.Rules.{rules}
 use Rattle.cursor.proofs.forward.Goals as goal
 
 pub returns-then-n-straight : goal.returns-then-n-straight

@@ -1,6 +1,5 @@
 -- `cursor::open` meets its contract: field by field.
 use Rattle.cursor.specs.Cursor.{opened}
-use borrow.Author.Rules.{rules}
 use Rattle.cursor.proofs.open.Goals as goal
 
 pub returns : goal.returns

@@ -1,6 +1,5 @@
 -- `cursor::skip` meets its contract: field by field.
 use Rattle.cursor.specs.Cursor.{skipped}
-use borrow.Author.Rules.{rules}
 use Rattle.cursor.proofs.skip.Goals as goal
 
 pub returns : goal.returns

@@ -1,6 +1,5 @@
 -- `cursor::straight` meets its contract: its tests are the definition's.
 use Rattle.cursor.specs.Cursor.{straight_by}
-use borrow.Author.Rules.{rules}
 use Rattle.cursor.proofs.straight.Goals as goal
 
 pub returns : goal.returns

@@ -1,11 +1,7 @@
 -- `effect::copy_vertex` meets its contract: what the copy leaves is the definition's first case.
-use borrow.Author.Rules.{rules}
 use borrow.Author.Tests.{le-leb, lt-leb}
 use native.Mathlib.Omega.{arith}
-use lib.Seq.{take-length}
-use mathlib.Core.Path.{◌≡◌, ◌∙◌}
-use mathlib.Core.List.{◌++◌}
-use lib.ListN.{length, take, drop}
+use lib.ListN.{length}
 use Rattle.effect.specs.Effect.{copied}
 use Rattle.effect.proofs.copy_vertex.Goals as goal
 

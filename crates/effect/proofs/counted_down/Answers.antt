@@ -1,5 +1,4 @@
 -- `effect::counted_down` meets its contract: the definition goes by the same cases.
-use borrow.Author.Rules.{rules}
 use Rattle.effect.proofs.counted_down.Goals as goal
 
 pub returns-else-left-eq0 : goal.returns-else-left-eq0

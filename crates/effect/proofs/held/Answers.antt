@@ -1,7 +1,6 @@
 -- `effect::held` meets its contract: past the last register both are 0.
 use mathlib.Core.Path.{sym}
 use lib.ListN.{get_or-eq_default}
-use borrow.Author.Rules.{rules}
 use Rattle.effect.proofs.held.Goals as goal
 
 pub returns-else-at-bp : goal.returns-else-at-bp

@@ -1,7 +1,6 @@
 -- `effect::hold` meets its contract: past the last register nothing is stored.
 use mathlib.Core.Path.{sym}
 use lib.Seq.{set_out}
-use borrow.Author.Rules.{rules}
 use Rattle.effect.proofs.hold.Goals as goal
 
 pub returns-else-at-bp : goal.returns-else-at-bp

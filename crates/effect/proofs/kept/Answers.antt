@@ -1,7 +1,6 @@
 -- `effect::kept` meets its contract: both make the same tests.
 use borrow.Author.Tests.{lt-ltb, le-ltb}
 use Rattle.effect.specs.Effect.{kept_of}
-use borrow.Author.Rules.{rules}
 use Rattle.effect.proofs.kept.Goals as goal
 
 pub returns-then-address-lt160 : goal.returns-then-address-lt160

@@ -1,6 +1,5 @@
 -- `effect::load_bp` meets its contract: the register is stored under the mask, and then the next mask.
 use Rattle.effect.proofs.Mask.{mask_stored}
-use borrow.Author.Rules.{rules}
 use Rattle.effect.proofs.load_bp.Goals as goal
 
 pub returns : goal.returns

@@ -1,5 +1,4 @@
 -- `effect::load_cp` meets its contract: the place and the number kept are the definition's, and so is the test.
-use borrow.Author.Rules.{rules}
 use borrow.Author.Tests.{lt-ltb, le-ltb}
 use Rattle.effect.specs.Effect.{loaded_cp}
 use Rattle.effect.proofs.load_cp.Goals as goal

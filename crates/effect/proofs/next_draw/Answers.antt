@@ -1,5 +1,4 @@
 -- `effect::next_draw` meets its contract: in each arm the command is known, and the definition computes.
-use borrow.Author.Rules.{rules}
 use Rattle.effect.specs.Effect.{draw_after}
 use Rattle.effect.proofs.next_draw.Goals as goal
 

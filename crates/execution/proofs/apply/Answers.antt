@@ -1,5 +1,4 @@
 -- `execution::apply` meets its contract: in each arm the command is known, and one thing changes.
-use borrow.Author.Rules.{rules}
 use mathlib.Core.Path.{refl}
 use Rattle.execution.proofs.Arms.{by_cp, by_bp, by_xf, by_vertex, by_none}
 use Rattle.execution.proofs.apply.Goals as goal

@@ -1,5 +1,4 @@
 -- `execution::load_xf` meets its contract: the tests are the definition's, and where both hold every word is stored.
-use borrow.Author.Rules.{rules}
 use native.Mathlib.Omega.{arith}
 use borrow.Author.Tests.{leb-true}
 use Prim.Native.Nat.{◌+◌, ◌*◌}

@@ -2,7 +2,6 @@
 use native.Mathlib.Omega.{arith}
 use lib.ListN.{length-set}
 use Rattle.execution.specs.Inner.{four_stored}
-use borrow.Author.Rules.{rules}
 use Rattle.execution.proofs.store_four.Goals as goal
 
 pub bounds-xf-to-2 : goal.bounds-xf-to-2

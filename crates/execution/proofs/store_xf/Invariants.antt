@@ -1,13 +1,9 @@
 -- `execution::store_xf` meets its contract: after i words, four at a time and then one, the first i words are stored.
-use mathlib.Core.Path.{◌≡◌, refl, ap, ◌∙◌}
+use mathlib.Core.Path.{◌≡◌}
 use mathlib.Core.List.{List}
 use Prim.Native.Nat.{ℕ, ◌-◌, ◌%◌, ◌≤◌}
-use native.Mathlib.Numerals.{add-one}
-use native.Mathlib.Omega.{arith}
-use lib.ListN.{length, length-set}
-use borrow.Author.Rules.{rules}
+use lib.ListN.{length}
 use Rattle.effect.specs.Effect.{stored_xf}
-use Rattle.execution.proofs.Four.{length_four, four_more}
 use Rattle.execution.proofs.store_xf.Given as goal
 
 abbrev pub invariant-loop-i : goal.invariant-loop-i

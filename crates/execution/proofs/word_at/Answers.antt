@@ -1,7 +1,6 @@
 -- `execution::word_at` meets its contract: four bytes, the highest first.
 use mathlib.Core.Path.{◌∙◌, sym}
 use Rattle.octets.proofs.Number.{four_bytes}
-use borrow.Author.Rules.{rules}
 use Rattle.execution.proofs.word_at.Goals as goal
 
 pub returns : goal.returns

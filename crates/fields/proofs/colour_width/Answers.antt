@@ -1,7 +1,6 @@
 -- In each arm the format is known and the definition computes; what is none of 0 to 4 has four bytes.
 use native.Mathlib.Omega.{arith}
 use Rattle.fields.proofs.Tests.{colour_wide}
-use borrow.Author.Rules.{rules}
 use Rattle.fields.proofs.colour_width.Goals as goal
 
 pub returns-in_default : goal.returns-in_default

@@ -1,6 +1,5 @@
 -- The code tells the attributes apart as the definition does.
 use borrow.Author.Tests.{ne_eqb}
-use borrow.Author.Rules.{rules}
 use Rattle.fields.proofs.components.Goals as goal
 
 pub returns-in-9 : goal.returns-in-9

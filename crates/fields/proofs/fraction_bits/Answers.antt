@@ -1,5 +1,4 @@
 -- The code tests as the definition does.
-use borrow.Author.Rules.{rules}
 use borrow.Author.Tests.{lt-ltb, le-ltb, eq-eqb, ne_eqb}
 use Rattle.fields.specs.Fields.{fraction_bits}
 use Rattle.fields.proofs.fraction_bits.Goals as goal

@@ -1,7 +1,6 @@
 -- A normal has what its group says, and others one.
 use borrow.Author.Tests.{eq-eqb, ne_eqb}
 use Rattle.fields.specs.Fields.{bits_at, counts, count_of, indices_of}
-use borrow.Author.Rules.{rules}
 use Rattle.fields.proofs.indices.Goals as goal
 
 pub returns-then-k-ne-NORMAL : goal.returns-then-k-ne-NORMAL

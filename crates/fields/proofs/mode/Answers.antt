@@ -1,7 +1,6 @@
 -- Where the code has the bits the table has them.
 use mathlib.Core.Path.{sym}
 use Rattle.fields.proofs.Modes.{matrix_mode, fore_mode, texture_mode, none_mode}
-use borrow.Author.Rules.{rules}
 use Rattle.fields.proofs.mode.Goals as goal
 
 pub returns-then-k-lt-POSITION : goal.returns-then-k-lt-POSITION

@@ -1,7 +1,6 @@
 -- In each arm the format is known and the definition computes; what is none of 0 to 3 has no fraction bits.
 use native.Mathlib.Omega.{arith}
 use Rattle.fields.proofs.Tests.{normal_none}
-use borrow.Author.Rules.{rules}
 use Rattle.fields.proofs.normal_bits.Goals as goal
 
 pub returns-in_default : goal.returns-in_default

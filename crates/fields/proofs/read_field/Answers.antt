@@ -1,6 +1,5 @@
 -- Each field as its own function promises it.
 use Rattle.fields.specs.Fields.{bits_at, fraction_of}
-use borrow.Author.Rules.{rules}
 use Rattle.fields.proofs.read_field.Goals as goal
 
 pub returns : goal.returns

@@ -4,7 +4,6 @@ use Prim.Native.Nat.{◌≤◌}
 use native.Mathlib.Omega.{arith}
 use Rattle.fields.specs.Fields.{bits_at, counts, formats, shifts, count_of, format_of}
 use Rattle.fields.proofs.Modes.{none_vat, outside, beyond}
-use borrow.Author.Rules.{rules}
 use Rattle.fields.proofs.read_vat.Goals as goal
 
 pub returns-in-9 : goal.returns-in-9

@@ -1,7 +1,6 @@
 -- `filing::check_rest` meets its contract: in each arm the answer is known.
 use mathlib.Core.Path.{sym, ap, ◌∙◌}
 use Rattle.recording.specs.Answers.{meaning_of_verdict}
-use borrow.Author.Rules.{rules}
 use Rattle.filing.proofs.check_rest.Goals as goal
 
 pub returns-in-Sound : goal.returns-in-Sound

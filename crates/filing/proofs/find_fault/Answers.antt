@@ -2,7 +2,6 @@
 use mathlib.Core.Path.{sym, ap, ◌∙◌}
 use Rattle.encoding.specs.Told.{second_of}
 use Rattle.recording.specs.Answers.{meaning_of_fault}
-use borrow.Author.Rules.{rules}
 use Rattle.filing.proofs.find_fault.Goals as goal
 
 pub returns-in-None : goal.returns-in-None

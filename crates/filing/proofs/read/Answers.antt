@@ -3,7 +3,6 @@ use mathlib.Core.Path.{sym, ap, ◌∙◌}
 use Rattle.encoding.proofs.Refusals.{stays}
 use Rattle.recordreader.specs.Reading.{meaning_of_read}
 use Rattle.filing.proofs.Loading.{refused_is, accepted_is, refused_into, loaded_into}
-use borrow.Author.Rules.{rules}
 use Rattle.filing.proofs.read.Goals as goal
 
 pub returns-in-Refused : goal.returns-in-Refused

@@ -4,7 +4,6 @@ use Rattle.encoding.specs.Told.{first_of}
 use Rattle.encoding.proofs.Refusals.{stays_number}
 use Rattle.recordreader.specs.Reading.{meaning_of_head}
 use Rattle.filing.proofs.Loading.{refused_is, accepted_is, refused_into, loaded_into}
-use borrow.Author.Rules.{rules}
 use Rattle.filing.proofs.read_head.Goals as goal
 
 pub returns-in-Refused : goal.returns-in-Refused

@@ -1,7 +1,6 @@
 -- `filing::write` meets its contract: it is the file of the registers that the words hold, with the number of the answer.
 use mathlib.Core.Path.{sym}
 use Rattle.answers.proofs.Counted.{puts}
-use borrow.Author.Rules.{rules}
 use Rattle.filing.proofs.write.Goals as goal
 
 pub returns : goal.returns

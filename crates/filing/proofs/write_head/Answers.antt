@@ -1,7 +1,6 @@
 -- `filing::write_head` meets its contract: it is the head for the registers that the words hold, with the number of the answer.
 use mathlib.Core.Path.{sym}
 use Rattle.answers.proofs.Counted.{puts}
-use borrow.Author.Rules.{rules}
 use Rattle.filing.proofs.write_head.Goals as goal
 
 pub returns : goal.returns

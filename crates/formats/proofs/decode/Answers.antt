@@ -4,7 +4,6 @@ use Rattle.layout.specs.declared.LayoutAnswer.{LayoutAnswer}
 use Rattle.layout.specs.Answers.{meaning}
 use Rattle.encoding.specs.Told.{first_of}
 use Rattle.formats.proofs.Lending.{one_told}
-use borrow.Author.Rules.{rules}
 use Rattle.formats.proofs.decode.Goals as goal
 
 pub returns-in-Refused : goal.returns-in-Refused

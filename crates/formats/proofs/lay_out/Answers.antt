@@ -1,7 +1,6 @@
 -- `formats::lay_out` meets its contract: it is the layout of the format that the words say.
 use mathlib.Core.Path.{sym}
 use Rattle.formats.proofs.Lending.{layout_refused, layout_done}
-use borrow.Author.Rules.{rules}
 use Rattle.formats.proofs.lay_out.Goals as goal
 
 pub returns-in-Refused : goal.returns-in-Refused

@@ -1,7 +1,6 @@
 -- `formats::raw_words` meets its contract: it reads by the format that the words say.
 use mathlib.Core.Path.{sym}
 use Rattle.formats.proofs.Lending.{raw_refused, raw_done}
-use borrow.Author.Rules.{rules}
 use Rattle.formats.proofs.raw_words.Goals as goal
 
 pub returns-in-Refused : goal.returns-in-Refused

@@ -1,16 +1,11 @@
 -- After k turns the sums below k are there and the total is the next; no sum passes 129, so each fits a byte.
-use mathlib.Core.Path.{◌≡◌, refl, ap, ◌∙◌}
+use mathlib.Core.Path.{◌≡◌}
 use mathlib.Core.List.{List}
-use Prim.Native.Nat.{ℕ, ◌-◌, ◌<◌, ◌≤◌}
-use native.Mathlib.Omega.{arith}
-use borrow.Author.Rules.{rules}
-use lib.ListN.{length, take, replicate, get_or, length-set}
+use Prim.Native.Nat.{ℕ, ◌-◌, ◌≤◌}
+use lib.ListN.{length, take}
 use Rattle.laws.specs.Values.{up_to}
-use Rattle.laws.proofs.Filled.{get_d_up_to, fill_none, fill_next, fill_all}
 use Rattle.fields.specs.declared.Descriptor.{Descriptor}
 use Rattle.layout.specs.Sizes.{size_of, offset_of}
-use Rattle.layout.proofs.Tests.{sum_none, sum_next}
-use Rattle.layout.proofs.Bounds.{size_small, offset_le}
 use Rattle.layout.proofs.fill.Given as goal
 
 -- what holds after k turns, of the descriptor whose bytes these are

@@ -3,7 +3,6 @@ use mathlib.Core.Path.{sym, ◌∙◌}
 use Rattle.refusal.specs.declared.Reason.TheVariants.{PositionAbsent, UnknownFormat}
 use Rattle.fields.specs.Fields.{bits_at, modes, mode_of}
 use Rattle.layout.proofs.Meanings.{laid_filled, laid_emptied, refused_absent, refused_unknown, accepted}
-use borrow.Author.Rules.{rules}
 use Rattle.layout.proofs.lay_out.Goals as goal
 
 pub returns-then-vcd0-eq0 : goal.returns-then-vcd0-eq0

@@ -2,7 +2,6 @@
 use native.Mathlib.Omega.{arith}
 use Rattle.layout.proofs.Bounds.{size_small}
 use Rattle.layout.proofs.Sums.{sizes_are}
-use borrow.Author.Rules.{rules}
 use Rattle.layout.proofs.sizes.Goals as goal
 
 pub overflow_cast-result-10 : goal.overflow_cast-result-10

@@ -1,12 +1,8 @@
 -- `loading::take_bp` meets its contract: after so many turns that many loads led from the first place to this one.
-use mathlib.Core.Path.{◌≡◌, refl}
+use mathlib.Core.Path.{◌≡◌}
 use Prim.Native.Nat.{◌-◌, ◌≤◌}
-use native.Mathlib.Omega.{arith}
 use lib.ListN.{length}
-use borrow.Author.Rules.{rules}
 use Rattle.walk.specs.Moves.{MovesBp}
-use Rattle.walk.proofs.Walks.{moves_none, moves_next}
-use Rattle.loading.proofs.Stored.{one_bp}
 use Rattle.loading.proofs.take_bp.Given as goal
 
 abbrev pub invariant-loop-units : goal.invariant-loop-units

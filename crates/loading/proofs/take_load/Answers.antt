@@ -3,7 +3,6 @@ use mathlib.Core.Path.{ap}
 use Prim.Native.Nat.{ℕ, ◌+◌, ◌%◌}
 use Rattle.walk.proofs.Walks.{moves_none}
 use Rattle.loading.proofs.Stored.{head_of}
-use borrow.Author.Rules.{rules}
 use Rattle.loading.proofs.take_load.Goals as goal
 
 pub returns-then-bytes-at : goal.returns-then-bytes-at

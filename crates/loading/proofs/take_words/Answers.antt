@@ -1,7 +1,6 @@
 -- `loading::take_words` meets its contract: the part that is lent is the unit, and its words go where the head says.
 use Rattle.walk.proofs.Walks.{moves_none}
 use Rattle.loading.proofs.Stored.{one_xf}
-use borrow.Author.Rules.{rules}
 use Rattle.loading.proofs.take_words.Goals as goal
 
 pub returns-then-bytes-at : goal.returns-then-bytes-at

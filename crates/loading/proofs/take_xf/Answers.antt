@@ -1,11 +1,8 @@
 -- `loading::take_xf` meets its contract: each turn's load goes on where the last one ended.
-use mathlib.Core.Path.{◌≡◌, refl}
+use mathlib.Core.Path.{refl}
 use mathlib.Core.List.{[]}
-use Prim.Native.Nat.{◌-◌}
 use native.Mathlib.Omega.{arith}
-use lib.ListN.{length}
 use borrow.Author.Rules.{rules}
-use Rattle.walk.specs.Moves.{MovesXf}
 use Rattle.walk.proofs.Walks.{moves_none, moves_then}
 use Rattle.loading.proofs.take_xf.Goals as goal
 

@@ -1,5 +1,4 @@
 -- `looking::decided` meets its contract: code and definition make the same test.
-use borrow.Author.Rules.{rules}
 use borrow.Author.Tests.{lt-ltb, le-ltb}
 use Rattle.looking.proofs.decided.Goals as goal
 

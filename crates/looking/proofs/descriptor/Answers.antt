@@ -1,5 +1,4 @@
 -- `looking::descriptor` meets its contract: each word is read at the definition's place.
-use borrow.Author.Rules.{rules}
 use Rattle.command.specs.Look.{descriptor_of}
 use Rattle.looking.proofs.descriptor.Goals as goal
 

@@ -1,5 +1,4 @@
 -- `looking::look` meets its contract: the open draw decides which look it is.
-use borrow.Author.Rules.{rules}
 use Rattle.command.specs.Look.{look_of}
 use Rattle.looking.proofs.look.Goals as goal
 

@@ -1,5 +1,4 @@
 -- `looking::look_command` meets its contract: each arm is a row of the table.
-use borrow.Author.Rules.{rules}
 use mathlib.Core.Path.{refl, ◌∙◌}
 use lib.ListN.{get_or}
 use Rattle.command.proofs.Opcodes.{Other, at_opcode, at_indexed, at_head, at_low, at_high}

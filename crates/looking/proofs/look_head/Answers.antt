@@ -1,6 +1,5 @@
 -- `looking::look_head` meets its contract:
 -- the measure's answer is the definition's refusal, and the count stands big-endian after the opcode.
-use borrow.Author.Rules.{rules}
 use native.Mathlib.Omega.{arith}
 use Rattle.command.proofs.Refusals.{decided_refused, unless_accepted}
 use Rattle.command.specs.Look.{look_head}

@@ -1,5 +1,4 @@
 -- `looking::look_vertex` meets its contract: the layout's answer is the definition's refusal, and its length the vertex's.
-use borrow.Author.Rules.{rules}
 use native.Mathlib.Omega.{arith}
 use mathlib.Core.Path.{◌∙◌}
 use Rattle.command.proofs.Refusals.{decided_refused, unless_accepted}

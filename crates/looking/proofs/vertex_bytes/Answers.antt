@@ -1,6 +1,5 @@
 -- The measure's length, of the descriptor that the registers give.
 use mathlib.Core.Path.{ap, ◌∙◌}
-use borrow.Author.Rules.{rules}
 use Rattle.layout.specs.Answers.{length_of}
 use Rattle.looking.proofs.vertex_bytes.Goals as goal
 

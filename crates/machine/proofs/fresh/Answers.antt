@@ -1,5 +1,4 @@
 -- `machine::fresh` meets its contract: the definition is the code.
-use borrow.Author.Rules.{rules}
 use Rattle.machine.specs.State.{fresh_machine}
 use Rattle.machine.proofs.fresh.Goals as goal
 

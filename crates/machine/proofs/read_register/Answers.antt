@@ -1,5 +1,4 @@
 -- `machine::read_register` meets its contract: it is the fifo's read, with the draw as it stands.
-use borrow.Author.Rules.{rules}
 use Rattle.machine.proofs.read_register.Goals as goal
 
 pub returns : goal.returns

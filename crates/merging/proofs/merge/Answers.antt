@@ -1,11 +1,9 @@
 -- `merging::merge` meets its contract: the three lengths, then A's faults, then B's, and only then the loop.
-use borrow.Author.Rules.{rules}
 use mathlib.Core.Path.{◌≡◌, sym, ap, ap₂, ◌∙◌}
 use mathlib.Core.Bool.{Bool, true, not, ◌&&◌}
-use borrow.Author.Tests.{not-false}
 use Rattle.merging.proofs.Merges.{all_sized, by_size, by_a, by_b, by_merging}
 use Rattle.patch.specs.Answers.{meaning}
-use Rattle.patch.specs.Patch.{Patch, patch_of, is_sized}
+use Rattle.patch.specs.Patch.{patch_of, is_sized}
 use Rattle.merging.proofs.merge.Goals as goal
 
 pub returns-then-not-a_sized-b_sized : goal.returns-then-not-a_sized-b_sized

@@ -1,10 +1,9 @@
 -- `merging::merge_all` meets its contract: the registers before r are merged.
 use mathlib.Core.Path.{◌≡◌, refl, sym, ◌∙◌}
-use Prim.Native.Nat.{◌-◌, ◌<◌}
+use Prim.Native.Nat.{◌<◌}
 use native.Mathlib.Omega.{arith}
-use borrow.Author.Rules.{rules}
-use Rattle.merging.proofs.Merges.{Merging, merging_none, merging_next, merging_all}
-use Rattle.patch.specs.Patch.{bp_count, patch_of}
+use Rattle.merging.proofs.Merges.{merging_none, merging_next, merging_all}
+use Rattle.patch.specs.Patch.{bp_count}
 use Rattle.merging.proofs.merge_all.Goals as goal
 
 pub loop-r-init : goal.loop-r-init

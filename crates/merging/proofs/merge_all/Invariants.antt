@@ -1,9 +1,6 @@
 -- `merging::merge_all` meets its contract: the registers before r are merged.
-use mathlib.Core.Path.{◌≡◌, refl, sym, ◌∙◌}
-use Prim.Native.Nat.{◌-◌, ◌<◌}
-use native.Mathlib.Omega.{arith}
-use borrow.Author.Rules.{rules}
-use Rattle.merging.proofs.Merges.{Merging, merging_none, merging_next, merging_all}
+use Prim.Native.Nat.{◌-◌}
+use Rattle.merging.proofs.Merges.{Merging}
 use Rattle.patch.specs.Patch.{bp_count, patch_of}
 use Rattle.merging.proofs.merge_all.Given as goal
 

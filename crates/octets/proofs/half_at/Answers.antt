@@ -1,7 +1,6 @@
 -- Both ways read the same two bytes.
 use mathlib.Core.Path.{sym, ◌∙◌}
 use Rattle.octets.proofs.Number.{two_bytes}
-use borrow.Author.Rules.{rules}
 use Rattle.octets.proofs.half_at.Goals as goal
 
 pub returns-then-place-bytes : goal.returns-then-place-bytes

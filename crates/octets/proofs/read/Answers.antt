@@ -4,7 +4,6 @@ use Prim.Native.Nat.{◌≤◌}
 use native.Mathlib.Omega.{arith}
 use borrow.Author.Tests.{le-ltb}
 use Rattle.octets.proofs.Number.{none, one_byte, two_bytes, three_bytes}
-use borrow.Author.Rules.{rules}
 use Rattle.octets.proofs.read.Goals as goal
 
 pub returns-in-0 : goal.returns-in-0

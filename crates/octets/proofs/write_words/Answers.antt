@@ -2,12 +2,12 @@
 use borrow.Author.Rules.{rules}
 use mathlib.Core.Path.{◌≡◌, refl, ap, ◌∙◌}
 use mathlib.Core.List.{List}
-use Prim.Native.Nat.{ℕ, ◌-◌, ◌*◌, ◌≤◌}
+use Prim.Native.Nat.{ℕ, ◌*◌}
 use native.Mathlib.Omega.{arith}
 use lib.ListN.{length, get_or, length-set}
 use lib.Seq.{sets}
 use Rattle.octets.specs.BigEndian.{bytes_of}
-use Rattle.octets.proofs.Words.{state, state_none, state_next, words_short, words_whole, four_stores}
+use Rattle.octets.proofs.Words.{state_none, state_next, words_short, words_whole, four_stores}
 use Rattle.octets.proofs.write_words.Goals as goal
 
 pub returns-then-out-words : goal.returns-then-out-words

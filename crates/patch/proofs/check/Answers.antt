@@ -1,11 +1,10 @@
 -- `patch::check` meets its contract: the search from a register on is the whole search as long as nothing was found.
-use mathlib.Core.Path.{◌≡◌, sym, ap, ◌∙◌}
-use Prim.Native.Nat.{◌-◌, ◌≤◌, ◌<◌}
+use mathlib.Core.Path.{sym, ap, ◌∙◌}
+use Prim.Native.Nat.{◌<◌}
 use native.Mathlib.Omega.{arith}
-use borrow.Author.Rules.{rules}
 use Rattle.patch.specs.Answers.{meaning}
 use Rattle.patch.proofs.Faults.{fault_masks, fault_numbers, fault_sized, fault_next, fault_here, fault_end}
-use Rattle.patch.specs.Patch.{bp_count, patch_of, fault_from, fault_of}
+use Rattle.patch.specs.Patch.{bp_count}
 use Rattle.patch.proofs.check.Goals as goal
 
 pub returns-then-masks-ne256 : goal.returns-then-masks-ne256

@@ -1,10 +1,6 @@
 -- `patch::check` meets its contract: the search from a register on is the whole search as long as nothing was found.
-use mathlib.Core.Path.{◌≡◌, sym, ap, ◌∙◌}
-use Prim.Native.Nat.{◌-◌, ◌≤◌, ◌<◌}
-use native.Mathlib.Omega.{arith}
-use borrow.Author.Rules.{rules}
-use Rattle.patch.specs.Answers.{meaning}
-use Rattle.patch.proofs.Faults.{fault_masks, fault_numbers, fault_sized, fault_next, fault_here, fault_end}
+use mathlib.Core.Path.{◌≡◌}
+use Prim.Native.Nat.{◌-◌, ◌≤◌}
 use Rattle.patch.specs.Patch.{bp_count, patch_of, fault_from, fault_of}
 use Rattle.patch.proofs.check.Given as goal
 

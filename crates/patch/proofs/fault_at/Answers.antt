@@ -4,7 +4,6 @@ use mathlib.Core.Bool.{Bool, true, false, cond, not, ◌&&◌, ◌||◌}
 use Prim.Native.Nat.{ℕ}
 use lib.Dec.{eqb, ltb}
 use lib.Bits.{bit_and}
-use borrow.Author.Rules.{rules}
 use Rattle.effect.specs.Effect.{mask_place}
 use Rattle.patch.specs.Patch.{fault_at}
 use Rattle.patch.proofs.fault_at.Goals as goal

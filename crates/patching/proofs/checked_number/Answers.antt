@@ -1,7 +1,6 @@
 -- `patching::checked_number` meets its contract: in each arm the answer is known.
 use mathlib.Core.Path.{sym, ap, ◌∙◌}
 use Rattle.patch.specs.Answers.{meaning}
-use borrow.Author.Rules.{rules}
 use Rattle.patching.proofs.checked_number.Goals as goal
 
 pub returns-in-Accepted : goal.returns-in-Accepted

@@ -1,6 +1,5 @@
 -- `patching::merge` meets its contract: it is the merge, with the number of its answer.
 use Rattle.patching.proofs.Lending.{merges}
-use borrow.Author.Rules.{rules}
 use Rattle.patching.proofs.merge.Goals as goal
 
 pub returns : goal.returns

@@ -1,6 +1,5 @@
 -- `patching::write` meets its contract: it is the patch written, with the number of its answer.
 use Rattle.answers.proofs.Counted.{puts}
-use borrow.Author.Rules.{rules}
 use Rattle.patching.proofs.write.Goals as goal
 
 pub returns : goal.returns

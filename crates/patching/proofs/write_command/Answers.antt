@@ -1,7 +1,6 @@
 -- `patching::write_command` meets its contract: it is the command that the words name, with its number.
 use mathlib.Core.Path.{sym}
 use Rattle.answers.proofs.Counted.{puts}
-use borrow.Author.Rules.{rules}
 use Rattle.patching.proofs.write_command.Goals as goal
 
 pub returns : goal.returns

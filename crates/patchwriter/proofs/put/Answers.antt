@@ -1,5 +1,4 @@
 -- `patchwriter::put` meets its contract: the load has room and 24 bits, so it is written over the front of what is lent.
-use borrow.Author.Rules.{rules}
 use Rattle.patchwriter.proofs.Writing.{put_done}
 use Rattle.patchwriter.proofs.put.Goals as goal
 

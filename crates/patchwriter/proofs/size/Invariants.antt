@@ -1,11 +1,7 @@
 -- `patchwriter::size` meets its contract: the bytes counted and those of the registers from r on are those of all.
-use mathlib.Core.Path.{◌≡◌, ap}
-use Prim.Native.Nat.{◌+◌, ◌*◌, ◌-◌, ◌≤◌, ◌<◌}
-use native.Mathlib.Omega.{arith}
-use lib.ListN.{get_or}
-use borrow.Author.Rules.{rules}
-use Rattle.patchwriter.proofs.Writing.{size_next, size_end, size_named}
-use Rattle.patchwriter.specs.Writing.{size_at, size_from}
+use mathlib.Core.Path.{◌≡◌}
+use Prim.Native.Nat.{◌+◌, ◌*◌, ◌-◌, ◌≤◌}
+use Rattle.patchwriter.specs.Writing.{size_from}
 use Rattle.patch.specs.Patch.{bp_count}
 use Rattle.patchwriter.proofs.size.Given as goal
 

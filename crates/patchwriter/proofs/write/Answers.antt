@@ -1,5 +1,4 @@
 -- `patchwriter::write` meets its contract: an accepted patch that fits is written whole, and nothing is written before both are known.
-use borrow.Author.Rules.{rules}
 use mathlib.Core.Path.{sym, ap, ◌∙◌}
 use native.Mathlib.Omega.{arith}
 use Rattle.patchwriter.proofs.Writing.{by_fault, by_room, by_writing}

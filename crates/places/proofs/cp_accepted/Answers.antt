@@ -1,5 +1,4 @@
 -- `places::cp_accepted` meets its contract: it is the definition, at the place that is looked up.
-use borrow.Author.Rules.{rules}
 use Rattle.places.specs.Places.{cp_accepted}
 use Rattle.places.proofs.cp_accepted.Goals as goal
 

@@ -6,7 +6,6 @@ use native.Mathlib.Omega.{arith}
 use borrow.Author.Tests.{lt-ltb, le-ltb}
 use Rattle.laws.proofs.Cases.{order}
 use Rattle.places.specs.Places.{cp_count, base_place, cp_place}
-use borrow.Author.Rules.{rules}
 use Rattle.places.proofs.cp_place.Goals as goal
 
 -- bases, and behind them strides

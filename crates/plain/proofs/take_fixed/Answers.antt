@@ -1,7 +1,6 @@
 -- `plain::take_fixed` meets its contract: all bytes of the unit are there, or none is taken.
 use borrow.Author.Tests.{le-leb, lt-leb}
 use Rattle.plain.specs.Fixed.{there_at}
-use borrow.Author.Rules.{rules}
 use Rattle.plain.proofs.take_fixed.Goals as goal
 
 pub returns-then-bytes-at : goal.returns-then-bytes-at

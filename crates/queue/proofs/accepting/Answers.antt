@@ -2,7 +2,6 @@
 use Rattle.queue.proofs.Moves.{accept_straight, accept_round}
 use mathlib.Core.Path.{◌∙◌}
 use native.Mathlib.Omega.{arith}
-use borrow.Author.Rules.{rules}
 use Rattle.queue.proofs.accepting.Goals as goal
 
 pub returns-then-n-straight : goal.returns-then-n-straight

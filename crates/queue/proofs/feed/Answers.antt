@@ -3,11 +3,9 @@ use Rattle.queue.specs.Feeding.{fed}
 use mathlib.Core.Path.{sym, ◌∙◌}
 use native.Mathlib.Omega.{arith}
 use lib.ListN.{length}
-use borrow.Author.Tests.{not-true, not-false}
 use Rattle.fifo.specs.Window.{Ready}
 use Rattle.fifo.proofs.WindowLaws.{ready_true, gap_count, count_below}
 use Rattle.queue.proofs.FeedLaws.{Fits, feed_unready, feed_long, feed_fits}
-use borrow.Author.Rules.{rules}
 use Rattle.queue.proofs.feed.Goals as goal
 
 pub returns-then-not-ready : goal.returns-then-not-ready

@@ -3,7 +3,6 @@ use mathlib.Core.Path.{sym, ◌∙◌}
 use native.Mathlib.Omega.{arith}
 use lib.Seq.{length-take-le}
 use Rattle.queue.proofs.Stretches.{put_straight, put_both}
-use borrow.Author.Rules.{rules}
 use Rattle.queue.proofs.store_round.Goals as goal
 
 pub returns-then-bytes-straight : goal.returns-then-bytes-straight

@@ -3,7 +3,6 @@ use mathlib.Core.Path.{sym}
 use lib.ListN.{get_or-eq_default}
 use borrow.Author.Tests.{lt-ltb, le-ltb}
 use Rattle.cursor.specs.Cursor.{byte_of}
-use borrow.Author.Rules.{rules}
 use Rattle.reading.proofs.byte.Goals as goal
 
 pub returns-then-cursor-k : goal.returns-then-cursor-k

@@ -2,7 +2,6 @@
 use native.Mathlib.Nat.{le_of_lt}
 use native.Mathlib.Nat.{min-eq_left, min-eq_right}
 use Rattle.cursor.specs.Cursor.{copied}
-use borrow.Author.Rules.{rules}
 use Rattle.reading.proofs.copy.Goals as goal
 
 pub returns-then-n-out : goal.returns-then-n-out

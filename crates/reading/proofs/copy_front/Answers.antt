@@ -1,9 +1,7 @@
 -- `reading::copy_front` meets its contract: a straight stretch is stored whole.
 use mathlib.Core.Path.{sym, ◌∙◌}
-use borrow.Author.Tests.{not-false}
 use Rattle.cursor.proofs.CursorLaws.{straight_true}
 use Rattle.reading.proofs.Copies.{straight_put}
-use borrow.Author.Rules.{rules}
 use Rattle.reading.proofs.copy_front.Goals as goal
 
 pub returns : goal.returns

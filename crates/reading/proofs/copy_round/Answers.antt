@@ -4,9 +4,7 @@ use Prim.Native.Nat.{◌-◌, ◌≤◌}
 use native.Mathlib.Omega.{arith}
 use lib.ListN.{length, drop, length-drop}
 use lib.Seq.{length-take-le}
-use borrow.Author.Tests.{not-false}
 use Rattle.reading.proofs.Copies.{round_true, round_put}
-use borrow.Author.Rules.{rules}
 use Rattle.reading.proofs.copy_round.Goals as goal
 
 pub overflow_sub-first : goal.overflow_sub-first

@@ -1,10 +1,9 @@
 -- `reading::gather` meets its contract: after k bytes the front holds the first k.
 use mathlib.Core.Path.{◌≡◌, refl, ap, ◌∙◌}
 use mathlib.Core.List.{◌++◌}
-use Prim.Native.Nat.{ℕ, ◌-◌, ◌≤◌}
+use Prim.Native.Nat.{ℕ}
 use native.Mathlib.Omega.{arith}
-use lib.ListN.{length, drop, length-set}
-use borrow.Author.Rules.{rules}
+use lib.ListN.{drop, length-set}
 use Rattle.laws.specs.Values.{up_to}
 use Rattle.laws.proofs.Front.{front_none, front_next}
 use Rattle.cursor.specs.Cursor.{byte_of}

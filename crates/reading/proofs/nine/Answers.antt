@@ -8,7 +8,6 @@ use lib.ListN.{length, drop, length-drop}
 use lib.Seq.{get_or-drop}
 use Rattle.laws.specs.Values.{up_to}
 use Rattle.laws.proofs.Filled.{firsts}
-use borrow.Author.Rules.{rules}
 use Rattle.reading.proofs.nine.Goals as goal
 
 pub returns : goal.returns

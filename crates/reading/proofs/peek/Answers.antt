@@ -5,7 +5,6 @@ use native.Mathlib.Omega.{arith}
 use Rattle.cursor.specs.Cursor.{copied, peeked}
 use Rattle.cursor.proofs.CursorLaws.{straight_true, straight_bytes}
 use Rattle.reading.proofs.Copies.{front_zeros}
-use borrow.Author.Rules.{rules}
 use Rattle.reading.proofs.peek.Goals as goal
 
 pub returns-then-at-ring : goal.returns-then-at-ring

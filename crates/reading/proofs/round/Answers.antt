@@ -1,6 +1,5 @@
 -- `reading::round` meets its contract: its tests are the definition's.
 use Rattle.reading.specs.Inner.{round_by}
-use borrow.Author.Rules.{rules}
 use Rattle.reading.proofs.round.Goals as goal
 
 pub returns : goal.returns

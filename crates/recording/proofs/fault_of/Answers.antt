@@ -4,7 +4,6 @@ use native.Mathlib.Omega.{arith}
 use Rattle.recording.specs.Faults.{stream_limit}
 use Rattle.recording.proofs.Classes.{of_bp_count, of_bp, of_cp_count, of_plain_cp, of_base, of_stride, of_xf_count, of_xf}
 use Rattle.recording.proofs.Classes.{of_stream_count}
-use borrow.Author.Rules.{rules}
 use Rattle.recording.proofs.fault_of.Goals as goal
 
 pub returns-then-k-eq0 : goal.returns-then-k-eq0

@@ -1,13 +1,12 @@
 -- `recording::search` meets its contract: the search from a number on is the whole search as long as nothing was found.
 use mathlib.Core.Path.{◌≡◌, refl, sym, ap, ◌∙◌}
-use Prim.Native.Nat.{◌-◌, ◌≤◌, ◌<◌}
+use Prim.Native.Nat.{◌<◌}
 use native.Mathlib.Omega.{arith}
 use Rattle.refusal.specs.Number.{number}
 use Rattle.recording.specs.Format.{number_count, file_number}
 use Rattle.recording.specs.Faults.{stream_limit, number_fault}
 use Rattle.recording.specs.Answers.{meaning_of_verdict}
-use Rattle.recording.proofs.Finding.{found_from, found_first, found_next, found_here, found_cut, found_none}
-use borrow.Author.Rules.{rules}
+use Rattle.recording.proofs.Finding.{found_first, found_next, found_here, found_cut, found_none}
 use Rattle.recording.proofs.search.Goals as goal
 
 pub loop-k-init : goal.loop-k-init

@@ -1,13 +1,9 @@
 -- `recordreader::fill` meets its contract: after i turns the first i numbers stand there.
 use mathlib.Core.Path.{◌≡◌, refl}
-use mathlib.Core.List.{List}
-use Prim.Native.Nat.{ℕ, ◌+◌, ◌-◌, ◌*◌, ◌<◌, ◌≤◌}
+use Prim.Native.Nat.{◌<◌}
 use native.Mathlib.Omega.{arith}
-use lib.ListN.{length, take, length-set}
-use Rattle.laws.specs.Values.{up_to}
+use lib.ListN.{length, length-set}
 use Rattle.laws.proofs.Filled.{fill_none, fill_next, fill_all}
-use Rattle.octets.specs.BigEndian.{big_endian}
-use borrow.Author.Rules.{rules}
 use Rattle.recordreader.proofs.fill.Invariants.{word}
 use Rattle.recordreader.proofs.fill.Goals as goal
 

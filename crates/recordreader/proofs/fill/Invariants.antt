@@ -1,13 +1,10 @@
 -- `recordreader::fill` meets its contract: after i turns the first i numbers stand there.
-use mathlib.Core.Path.{◌≡◌, refl}
+use mathlib.Core.Path.{◌≡◌}
 use mathlib.Core.List.{List}
-use Prim.Native.Nat.{ℕ, ◌+◌, ◌-◌, ◌*◌, ◌<◌, ◌≤◌}
-use native.Mathlib.Omega.{arith}
-use lib.ListN.{length, take, length-set}
+use Prim.Native.Nat.{ℕ, ◌+◌, ◌-◌, ◌*◌, ◌≤◌}
+use lib.ListN.{length, take}
 use Rattle.laws.specs.Values.{up_to}
-use Rattle.laws.proofs.Filled.{fill_none, fill_next, fill_all}
 use Rattle.octets.specs.BigEndian.{big_endian}
-use borrow.Author.Rules.{rules}
 use Rattle.recordreader.proofs.fill.Given as goal
 
 -- number i from a place on

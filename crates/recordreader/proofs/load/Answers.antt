@@ -1,5 +1,4 @@
 -- `recordreader::load` meets its contract: each of the three parts is filled from where it stands.
-use borrow.Author.Rules.{rules}
 use mathlib.Core.Path.{ap, ◌∙◌}
 use Prim.Native.Nat.{◌*◌}
 use Rattle.command.specs.declared.Draw.TheVariants.{Closed}

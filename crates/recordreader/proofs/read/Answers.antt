@@ -1,5 +1,4 @@
 -- `recordreader::read` meets its contract: nothing is loaded before the search and the test of the rest are over.
-use borrow.Author.Rules.{rules}
 use mathlib.Core.Path.{sym, ap, ◌∙◌}
 use Prim.Native.Nat.{◌-◌}
 use lib.ListN.{length}

@@ -1,5 +1,4 @@
 -- `recordreader::read_head` meets its contract: nothing is loaded before the search is over.
-use borrow.Author.Rules.{rules}
 use mathlib.Core.Path.{◌∙◌}
 use Rattle.recordreader.proofs.Outcomes.{found_at, found_none, head_by_words, head_by_search, head_refused, head_read}
 use Rattle.recordreader.proofs.read_head.Goals as goal

@@ -1,6 +1,5 @@
 -- `recordwriter::put_number` meets its contract: four bytes go into what is left of the output.
 use Rattle.recordwriter.proofs.Putting.{number_put}
-use borrow.Author.Rules.{rules}
 use Rattle.recordwriter.proofs.put_number.Goals as goal
 
 pub returns : goal.returns

@@ -1,6 +1,5 @@
 -- `recordwriter::put_section` meets its contract: the count, and the numbers behind it.
 use Rattle.recordwriter.proofs.Putting.{section_put}
-use borrow.Author.Rules.{rules}
 use Rattle.recordwriter.proofs.put_section.Goals as goal
 
 pub returns : goal.returns

@@ -3,13 +3,12 @@ use mathlib.Core.Path.{◌≡◌, sym, ◌∙◌}
 use mathlib.Core.Bool.{true, false}
 use mathlib.Core.List.{List}
 use Prim.Native.Nat.{ℕ, ◌<◌, ◌≤◌}
-use borrow.Author.Tests.{not-true, not-false, eq-eqb, ne_eqb, le-leb, lt-leb}
+use borrow.Author.Tests.{eq-eqb, ne_eqb, le-leb, lt-leb}
 use Rattle.command.specs.Look.{xf_count}
 use Rattle.command.specs.declared.Draw.TheVariants.{Closed}
 use Rattle.machine.specs.Gate.{registers_fit}
 use Rattle.recording.specs.Faults.{stream_limit}
 use Rattle.recording.specs.Answers.{content_refusal}
-use borrow.Author.Rules.{rules}
 use Rattle.recordwriter.proofs.test.Goals as goal
 
 module _ (cp bp : List ℕ) (xf stream : ℕ) where

@@ -1,5 +1,4 @@
 -- `recordwriter::write` meets its contract: the head, and the stream behind it; nothing is written before all tests are passed.
-use borrow.Author.Rules.{rules}
 use mathlib.Core.Path.{sym, ap, ◌∙◌}
 use native.Mathlib.Omega.{arith}
 use lib.ListN.{length}

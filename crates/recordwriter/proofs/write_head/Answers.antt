@@ -1,5 +1,4 @@
 -- `recordwriter::write_head` meets its contract: nothing is written before all tests are passed.
-use borrow.Author.Rules.{rules}
 use mathlib.Core.Path.{sym, ap, ◌∙◌}
 use lib.ListN.{length}
 use Rattle.recording.specs.Answers.{meaning_of_verdict}

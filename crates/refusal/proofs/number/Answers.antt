@@ -1,5 +1,4 @@
 -- `refusal::number` meets its contract: in each arm the reason is known, and the definition computes.
-use borrow.Author.Rules.{rules}
 use Rattle.refusal.proofs.number.Goals as goal
 
 pub returns-in-InvalidState : goal.returns-in-InvalidState

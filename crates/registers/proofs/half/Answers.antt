@@ -1,6 +1,5 @@
 -- `registers::half` meets its contract: each half by its own arm.
 use Rattle.registers.specs.Registers.{half_of}
-use borrow.Author.Rules.{rules}
 use Rattle.registers.proofs.half.Goals as goal
 
 pub returns-then-high : goal.returns-then-high

@@ -1,6 +1,5 @@
 -- `registers::is_readable` meets its contract: its tests are the definition's.
 use Rattle.registers.specs.Registers.{readable}
-use borrow.Author.Rules.{rules}
 use Rattle.registers.proofs.is_readable.Goals as goal
 
 pub returns : goal.returns

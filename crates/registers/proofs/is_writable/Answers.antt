@@ -1,6 +1,5 @@
 -- `registers::is_writable` meets its contract: its tests are the definition's.
 use Rattle.registers.specs.Registers.{writable}
-use borrow.Author.Rules.{rules}
 use Rattle.registers.proofs.is_writable.Goals as goal
 
 pub returns : goal.returns

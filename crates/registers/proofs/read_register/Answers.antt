@@ -2,13 +2,12 @@
 use mathlib.Core.Path.{◌≡◌, sym, ◌∙◌}
 use Prim.Native.Nat.{ℕ}
 use mathlib.Core.Bool.{Bool, true, false, ◌&&◌, not}
-use borrow.Author.Tests.{eq-eqb, ne_eqb, lt-ltb, le-ltb, not-true, not-false}
+use borrow.Author.Tests.{eq-eqb, ne_eqb, lt-ltb, le-ltb}
 use Rattle.fifo.specs.declared.Fifo.{Fifo}
 use Rattle.fifo.specs.Window.{valid_by}
 use Rattle.registers.specs.Registers.{computed, readable, read_answer, value_of}
 use Rattle.fifo.proofs.WindowLaws.{valid_true}
 use Rattle.registers.proofs.RegisterLaws.{readable_word, checked, WordOffset}
-use borrow.Author.Rules.{rules}
 use Rattle.registers.proofs.read_register.Goals as goal
 
 abbrev broken : Fifo → ℕ → Bool

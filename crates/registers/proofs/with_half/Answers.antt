@@ -1,6 +1,5 @@
 -- `registers::with_half` meets its contract: each half by its own arm.
 use Rattle.registers.specs.Registers.{with_half}
-use borrow.Author.Rules.{rules}
 use Rattle.registers.proofs.with_half.Goals as goal
 
 pub returns-then-high : goal.returns-then-high

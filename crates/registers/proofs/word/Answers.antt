@@ -2,7 +2,6 @@
 use mathlib.Core.Path.{◌≡◌, ◌∙◌}
 use native.Mathlib.Omega.{arith}
 use Rattle.fifo.proofs.WindowLaws.{gap_count}
-use borrow.Author.Rules.{rules}
 use Rattle.registers.proofs.word.Goals as goal
 
 pub returns-in-4 : goal.returns-in-4

@@ -1,10 +1,9 @@
 -- `registers::write_register` meets its contract: the tests are made in the definition's order, and each answer is its arm.
 use mathlib.Core.Path.{◌≡◌, sym, ◌∙◌}
-use mathlib.Core.Bool.{true, false, false≢true}
-use borrow.Author.Tests.{eq-eqb, ne_eqb, lt-ltb, le-ltb, not-true, not-false}
+use mathlib.Core.Bool.{true, false≢true}
+use borrow.Author.Tests.{eq-eqb, ne_eqb, lt-ltb, le-ltb}
 use Rattle.registers.specs.Registers.{word_at, writable, write_answer, written, stored, with_register}
 use Rattle.registers.proofs.RegisterLaws.{writable_word, writable_stored, WordOffset}
-use borrow.Author.Rules.{rules}
 use Rattle.registers.proofs.write_register.Goals as goal
 
 pub returns-then-not-is_writable : goal.returns-then-not-is_writable

@@ -3,7 +3,6 @@ use mathlib.Core.Path.{refl, sym, ◌∙◌}
 use Rattle.words.specs.State.{state_at}
 use Rattle.words.proofs.Fits.{wide_refused}
 use Rattle.stepping.proofs.Units.{handed, run_wide, run_zero, run_none, run_some}
-use borrow.Author.Rules.{rules}
 use Rattle.runner.proofs.run.Goals as goal
 
 pub returns-in_default : goal.returns-in_default

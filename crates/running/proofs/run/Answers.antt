@@ -1,5 +1,4 @@
 -- `running::run` meets its contract: past the gate it is the takings, and the limit is cut to the most.
-use borrow.Author.Rules.{rules}
 use mathlib.Core.Path.{sym, ap, ◌∙◌}
 use Rattle.running.proofs.Runs.{run_refused, run_taken}
 use Rattle.machine.proofs.Passing.{passed}

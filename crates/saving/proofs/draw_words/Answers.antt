@@ -1,5 +1,4 @@
 -- `saving::draw_words` meets its contract: in each arm the answer is known, and the definition computes.
-use borrow.Author.Rules.{rules}
 use Rattle.saving.proofs.draw_words.Goals as goal
 
 pub returns-in-Open : goal.returns-in-Open

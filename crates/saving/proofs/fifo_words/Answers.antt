@@ -1,5 +1,4 @@
 -- `saving::fifo_words` meets its contract: it lists the fields in their order.
-use borrow.Author.Rules.{rules}
 use mathlib.Core.Path.{refl}
 use Rattle.saving.proofs.fifo_words.Goals as goal
 

@@ -5,7 +5,6 @@ use Prim.Native.Nat.{ℕ}
 use Rattle.fifo.specs.declared.Fifo.{Fifo}
 use Rattle.queue.specs.Feeding.{put}
 use Rattle.words.specs.State.{fifo_of, fifo_words, words_by}
-use borrow.Author.Rules.{rules}
 use Rattle.saving.proofs.save.Goals as goal
 
 -- words whose first seven are a fifo's say that fifo

@@ -4,7 +4,6 @@ use mathlib.Core.Path.{refl, sym, ◌∙◌}
 use Rattle.words.specs.State.{state_at}
 use Rattle.words.proofs.Fits.{wide_refused}
 use Rattle.stepping.proofs.Units.{handed, none, take_wide, take_none, take_done}
-use borrow.Author.Rules.{rules}
 use borrow.Enum.Refused.{opened}
 use Rattle.stepping.proofs.take.Goals as goal
 

@@ -1,7 +1,7 @@
 -- `unit::execute` meets its contract: a part of the ring, or a copy, is the cursor's first bytes.
 use borrow.Author.Rules.{rules}
 use mathlib.Core.Path.{◌≡◌, sym, ap, ◌∙◌}
-use Prim.Native.Nat.{◌+◌, ◌-◌, ◌≤◌}
+use Prim.Native.Nat.{◌+◌, ◌≤◌}
 use lib.ListN.{length, take}
 use borrow.Author.Tests.{leb-true}
 use lib.Seq.{length-take-le}

@@ -1,5 +1,4 @@
 -- `unit::look_at` meets its contract: it is the look at the cursor's first nine bytes.
-use borrow.Author.Rules.{rules}
 use Rattle.unit.proofs.Found.{seen_by}
 use Rattle.unit.proofs.look_at.Goals as goal
 

@@ -1,5 +1,4 @@
 -- `unit::take_at` meets its contract: what the look finds decides; a unit is executed and skipped, and else nothing changes.
-use borrow.Author.Rules.{rules}
 use mathlib.Core.Path.{◌≡◌, sym, ap, ◌∙◌}
 use Rattle.unit.proofs.Found.{seen_by, seen_most, takes_unit, takes_waiting, takes_refused}
 use Rattle.unit.specs.Cursor.{seen}

@@ -4,7 +4,6 @@ use native.Mathlib.Nat.{mul-le-mul, le_trans, le_of_eq}
 use native.Mathlib.Omega.{arith}
 use Rattle.component.proofs.Widths.{width_le}
 use Rattle.vertex.proofs.Lists.{component_is}
-use borrow.Author.Rules.{rules}
 use Rattle.vertex.proofs.component_at.Goals as goal
 
 pub overflow_mul-i : goal.overflow_mul-i

@@ -8,7 +8,6 @@ use Rattle.vertex.specs.Attributes.{attribute_list}
 use Rattle.vertex.specs.Answers.{refusal_at}
 use Rattle.vertex.proofs.Refusals.{unless_accepted, place_refused, place_found}
 use Rattle.vertex.proofs.Promise.{decodes}
-use borrow.Author.Rules.{rules}
 use Rattle.vertex.proofs.decode.Goals as goal
 
 pub returns-in-Refused : goal.returns-in-Refused

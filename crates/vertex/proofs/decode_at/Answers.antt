@@ -8,7 +8,6 @@ use Rattle.fields.specs.Fields.{mode_of}
 use Rattle.fields.proofs.Bounds.{mode_le}
 use Rattle.vertex.specs.Attributes.{direct_list, index_list}
 use Rattle.vertex.proofs.Lists.{attribute_absent, attribute_matrix, attribute_direct, attribute_indexed}
-use borrow.Author.Rules.{rules}
 use Rattle.vertex.proofs.decode_at.Goals as goal
 
 pub returns-then-mode-eq0 : goal.returns-then-mode-eq0

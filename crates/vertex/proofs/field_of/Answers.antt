@@ -2,7 +2,6 @@
 use mathlib.Core.Path.{sym, ap, ◌∙◌}
 use Prim.Native.Nat.{ℕ}
 use Rattle.fields.specs.Fields.{field_of}
-use borrow.Author.Rules.{rules}
 use Rattle.vertex.proofs.field_of.Goals as goal
 
 pub returns-then-k-eq-POSITION : goal.returns-then-k-eq-POSITION

@@ -9,7 +9,6 @@ use Rattle.layout.proofs.Bounds.{found_at, length_accepted, offset_le}
 use Rattle.vertex.specs.Answers.{refusal_at}
 use Rattle.vertex.proofs.Refusals.{refused_number, refused_length, accepted_at, unless_refused_lem, unless_accepted, layout_refused}
 use Rattle.vertex.proofs.Refusals.{layout_accepted}
-use borrow.Author.Rules.{rules}
 use Rattle.vertex.proofs.locate.Goals as goal
 
 pub returns-then-k-gt-TEXTURE7 : goal.returns-then-k-gt-TEXTURE7

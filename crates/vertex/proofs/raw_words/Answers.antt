@@ -7,7 +7,6 @@ use Rattle.layout.specs.Sizes.{offset_of}
 use Rattle.vertex.specs.Attributes.{singles_of, words_of}
 use Rattle.vertex.specs.Answers.{refusal_at}
 use Rattle.vertex.proofs.Refusals.{unless_accepted, place_refused, place_found}
-use borrow.Author.Rules.{rules}
 use Rattle.vertex.proofs.raw_words.Goals as goal
 
 pub returns-in-Refused : goal.returns-in-Refused

@@ -1,16 +1,15 @@
 -- By the number of the attribute: a colour, a position, a normal or a texture.
 use mathlib.Core.Path.{◌≡◌, sym, ap, ◌∙◌}
 use mathlib.Core.Bool.{false}
-use mathlib.Core.List.{List, [], ◌∷◌}
+use mathlib.Core.List.{[], ◌∷◌}
 use Prim.Native.Nat.{ℕ}
 use Rattle.octets.specs.BigEndian.{big_endian, at_most_four}
 use Rattle.fields.specs.Components.{is_colour}
 use Rattle.fields.proofs.Bounds.{colour_le}
 use Rattle.vertex.specs.declared.Triple.{Triple}
-use Rattle.vertex.specs.Attributes.{component_list, direct_list}
+use Rattle.vertex.specs.Attributes.{component_list}
 use Rattle.vertex.specs.Answers.{triple_bits}
 use Rattle.vertex.proofs.Lists.{position_told, direct_colour, direct_other, texture_alike}
-use borrow.Author.Rules.{rules}
 use Rattle.vertex.proofs.read_direct.Goals as goal
 
 pub returns-then-is_colour : goal.returns-then-is_colour

@@ -1,6 +1,5 @@
 -- One index, or three in a row.
 use Rattle.vertex.proofs.Lists.{index_told, indices_told}
-use borrow.Author.Rules.{rules}
 use Rattle.vertex.proofs.read_indices.Goals as goal
 
 pub returns-then-times-ne3 : goal.returns-then-times-ne3

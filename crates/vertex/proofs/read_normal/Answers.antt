@@ -1,6 +1,5 @@
 -- One triple, or three in a row, by the count bit.
 use Rattle.vertex.proofs.Lists.{normal_told, frame_told}
-use borrow.Author.Rules.{rules}
 use Rattle.vertex.proofs.read_normal.Goals as goal
 
 pub returns-then-count-eq0 : goal.returns-then-count-eq0

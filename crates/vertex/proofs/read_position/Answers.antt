@@ -1,6 +1,5 @@
 -- Two components, and +0 or a third by the count bit.
 use borrow.Author.Tests.{eq-eqb, ne_eqb}
-use borrow.Author.Rules.{rules}
 use Rattle.vertex.proofs.read_position.Goals as goal
 
 pub returns-then-count-eq0 : goal.returns-then-count-eq0

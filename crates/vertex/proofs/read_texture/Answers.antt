@@ -1,6 +1,5 @@
 -- One component and +0, or two, by the count bit.
 use Rattle.vertex.proofs.Lists.{one_told, two_told}
-use borrow.Author.Rules.{rules}
 use Rattle.vertex.proofs.read_texture.Goals as goal
 
 pub returns-then-count-eq0 : goal.returns-then-count-eq0

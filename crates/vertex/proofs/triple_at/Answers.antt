@@ -1,5 +1,4 @@
 -- Three components in a row.
-use borrow.Author.Rules.{rules}
 use Rattle.vertex.proofs.triple_at.Goals as goal
 
 pub returns : goal.returns

@@ -7,7 +7,6 @@ use Rattle.fields.specs.declared.Field.{Field}
 use Rattle.layout.specs.Sizes.{direct_of}
 use Rattle.layout.proofs.Tests.{size_absent, size_direct, size_indexed}
 use Rattle.fields.proofs.Bounds.{mode_le, indices_le}
-use borrow.Author.Rules.{rules}
 use Rattle.whole.proofs.bytes_of.Goals as goal
 
 pub returns-then-mode-eq0 : goal.returns-then-mode-eq0

@@ -7,7 +7,6 @@ use Rattle.component.proofs.Widths.{width_le}
 use Rattle.fields.specs.Components.{components_of}
 use Rattle.layout.specs.Sizes.{direct_of}
 use Rattle.fields.proofs.Bounds.{components_nine}
-use borrow.Author.Rules.{rules}
 use Rattle.whole.proofs.direct_bytes.Goals as goal
 
 pub returns-then-is_colour : goal.returns-then-is_colour

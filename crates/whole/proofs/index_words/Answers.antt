@@ -6,7 +6,6 @@ use mathlib.Core.List.{List}
 use Prim.Native.Nat.{ℕ}
 use Rattle.vertex.proofs.Lists.{index_told, indices_told}
 use Rattle.encoding.specs.Told.{padded}
-use borrow.Author.Rules.{rules}
 use Rattle.whole.proofs.index_words.Goals as goal
 
 pub number_in-x-requires : goal.number_in-x-requires

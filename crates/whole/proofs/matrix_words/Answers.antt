@@ -1,6 +1,5 @@
 -- A matrix is there where its bit is set.
 use borrow.Author.Tests.{eq-eqb, ne_eqb}
-use borrow.Author.Rules.{rules}
 use Rattle.whole.proofs.matrix_words.Goals as goal
 
 pub returns-then-bit-eq0 : goal.returns-then-bit-eq0

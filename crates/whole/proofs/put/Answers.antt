@@ -1,14 +1,13 @@
 -- After i turns the first i words stand at the attribute's place, and all else is what it was.
 use mathlib.Core.Path.{◌≡◌, refl, ap, ◌∙◌}
 use mathlib.Core.List.{List, ◌++◌}
-use Prim.Native.Nat.{ℕ, ◌+◌, ◌-◌, ◌≤◌}
+use Prim.Native.Nat.{ℕ, ◌+◌}
 use native.Mathlib.Nat.{le_of_eq}
 use native.Mathlib.Omega.{arith}
 use lib.ListN.{length, take, drop, length-set}
 use lib.Seq.{take_all}
 use borrow.Author.Rules.{rules}
 use Rattle.whole.proofs.Tens.{put_none, put_next}
-use Rattle.whole.proofs.put.Invariants.{Turn}
 use Rattle.whole.proofs.put.Goals as goal
 
 pub loop-i-init : goal.loop-i-init

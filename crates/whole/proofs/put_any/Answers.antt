@@ -3,7 +3,6 @@ use mathlib.Core.Path.{refl}
 use native.Mathlib.Omega.{arith}
 use Rattle.whole.proofs.Untold.{at_le, mode_small, direct_room, indexed_room, some_index}
 use Rattle.whole.proofs.Untold.{absent_told, indexed_told, direct_told}
-use borrow.Author.Rules.{rules}
 use Rattle.whole.proofs.put_any.Goals as goal
 
 pub returns-then-mode-eq0 : goal.returns-then-mode-eq0

@@ -11,7 +11,6 @@ use Rattle.encoding.specs.Told.{padded}
 use Rattle.whole.specs.Inner.{ten_at, few_list, few_kind}
 use Rattle.whole.proofs.Tens.{few_told, frame_told}
 use Rattle.whole.proofs.Untold.{colour_room, direct_many}
-use borrow.Author.Rules.{rules}
 use Rattle.whole.proofs.put_direct.Goals as goal
 
 pub number_in-n-requires : goal.number_in-n-requires

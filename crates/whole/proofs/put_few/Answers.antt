@@ -1,6 +1,5 @@
 -- The words of up to three components.
 use mathlib.Core.Path.{◌∙◌}
-use borrow.Author.Rules.{rules}
 use Rattle.whole.proofs.put_few.Goals as goal
 
 pub returns : goal.returns

@@ -8,7 +8,6 @@ use Rattle.vertex.specs.Attributes.{attribute_list}
 use Rattle.encoding.specs.Told.{padded}
 use Rattle.whole.proofs.Tens.{tells_ten}
 use Rattle.whole.proofs.Untold.{at_le}
-use borrow.Author.Rules.{rules}
 use Rattle.whole.proofs.tell.Goals as goal
 
 pub overflow_add-result : goal.overflow_add-result

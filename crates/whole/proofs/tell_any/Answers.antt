@@ -3,7 +3,6 @@ use mathlib.Core.Path.{sym, ◌∙◌}
 use native.Mathlib.Omega.{arith}
 use Rattle.fields.proofs.Modes.{matrix_mode}
 use Rattle.whole.proofs.Untold.{ten_only, matrix_list_lem}
-use borrow.Author.Rules.{rules}
 use Rattle.whole.proofs.tell_any.Goals as goal
 
 pub returns-then-k-lt-POSITION : goal.returns-then-k-lt-POSITION

@@ -1,17 +1,13 @@
 -- After k turns the first k matrices are told.
 use mathlib.Core.Path.{◌≡◌, refl, sym, ap, ◌∙◌, subst}
-use mathlib.Core.List.{List}
-use Prim.Native.Nat.{ℕ, ◌+◌, ◌-◌, ◌/◌, ◌%◌, ◌^◌, ◌<◌, ◌≤◌}
+use Prim.Native.Nat.{ℕ, ◌+◌, ◌/◌, ◌%◌, ◌^◌, ◌<◌}
 use native.Mathlib.Omega.{arith}
-use lib.ListN.{length}
-use borrow.Author.Rules.{rules}
 use Rattle.fields.specs.declared.Descriptor.{Descriptor}
 use Rattle.fields.specs.Fields.{mode_of}
 use Rattle.fields.proofs.Modes.{matrix_mode}
 use Rattle.whole.specs.Inner.{TellsFrom}
 use Rattle.whole.proofs.Tens.{moves_none, moves_then}
 use Rattle.whole.proofs.Untold.{matrix_told}
-use Rattle.whole.proofs.tell_matrices.Invariants.{Turn}
 use Rattle.whole.proofs.tell_matrices.Goals as goal
 
 -- a bit is the mode of its matrix

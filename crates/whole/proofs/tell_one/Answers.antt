@@ -7,7 +7,6 @@ use Rattle.layout.specs.Sizes.{offset_of}
 use Rattle.vertex.specs.Attributes.{attribute_list}
 use Rattle.encoding.specs.Told.{padded}
 use Rattle.whole.proofs.Untold.{ten_only}
-use borrow.Author.Rules.{rules}
 use Rattle.whole.proofs.tell_one.Goals as goal
 
 pub put_any-requires : goal.put_any-requires

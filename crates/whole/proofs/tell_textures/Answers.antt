@@ -3,7 +3,6 @@ use mathlib.Core.Path.{◌∙◌}
 use lib.Dec.{lit<, lit≤}
 use Rattle.whole.proofs.Tens.{moves_told, moves_then}
 use Rattle.whole.proofs.Untold.{untold}
-use borrow.Author.Rules.{rules}
 use Rattle.whole.proofs.tell_textures.Goals as goal
 
 pub tell-a-requires : goal.tell-a-requires

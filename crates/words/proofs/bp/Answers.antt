@@ -1,6 +1,5 @@
 -- `words::bp` meets its contract: its words are filled from the first on.
 use Rattle.words.specs.State.{bp_of}
-use borrow.Author.Rules.{rules}
 use Rattle.words.proofs.bp.Goals as goal
 
 pub returns : goal.returns

@@ -1,6 +1,5 @@
 -- `words::cp` meets its contract: its words are filled from the first on.
 use Rattle.words.specs.State.{cp_of}
-use borrow.Author.Rules.{rules}
 use Rattle.words.proofs.cp.Goals as goal
 
 pub returns : goal.returns

@@ -1,12 +1,9 @@
 -- `words::fill` meets its contract: after k elements the first k are the words from the place on.
-use mathlib.Core.Path.{◌≡◌, refl, sym, ◌∙◌}
-use mathlib.Core.List.{List}
-use Prim.Native.Nat.{ℕ, ◌-◌, ◌≤◌}
+use mathlib.Core.Path.{refl, sym, ◌∙◌}
+use Prim.Native.Nat.{ℕ, ◌≤◌}
 use native.Mathlib.Omega.{arith}
-use lib.ListN.{length, get_or, take, drop, length-set, length-drop}
+use lib.ListN.{length, drop, length-set, length-drop}
 use lib.Seq.{get_or-drop}
-use borrow.Author.Rules.{rules}
-use Rattle.laws.specs.Values.{up_to}
 use Rattle.laws.proofs.Filled.{firsts, fill_none, fill_next, fill_all}
 use Rattle.words.proofs.fill.Invariants.{from}
 use Rattle.words.proofs.fill.Goals as goal

@@ -1,13 +1,9 @@
 -- `words::fill` meets its contract: after k elements the first k are the words from the place on.
-use mathlib.Core.Path.{◌≡◌, refl, sym, ◌∙◌}
+use mathlib.Core.Path.{◌≡◌}
 use mathlib.Core.List.{List}
 use Prim.Native.Nat.{ℕ, ◌-◌, ◌≤◌}
-use native.Mathlib.Omega.{arith}
-use lib.ListN.{length, get_or, take, drop, length-set, length-drop}
-use lib.Seq.{get_or-drop}
-use borrow.Author.Rules.{rules}
+use lib.ListN.{length, get_or, take, drop}
 use Rattle.laws.specs.Values.{up_to}
-use Rattle.laws.proofs.Filled.{firsts, fill_none, fill_next, fill_all}
 use Rattle.words.proofs.fill.Given as goal
 
 -- the words from a place on, one by one

@@ -1,6 +1,5 @@
 -- `words::left` meets its contract: the flag and the count are tested as the definition does.
 use borrow.Author.Tests.{eq-eqb, ne_eqb, lt-ltb, le-ltb}
-use borrow.Author.Rules.{rules}
 use Rattle.words.proofs.left.Goals as goal
 
 pub returns-then-flag-ne1 : goal.returns-then-flag-ne1

@@ -1,6 +1,5 @@
 -- `words::read_front` meets its contract: where the words fit, the fifo and the draw are read from them.
 use Rattle.words.proofs.Fits.{wide_control, held_closed, wide_primitive, wide_format, held_open}
-use borrow.Author.Rules.{rules}
 use Rattle.words.proofs.read_front.Goals as goal
 
 pub returns-then-words-ge65536 : goal.returns-then-words-ge65536

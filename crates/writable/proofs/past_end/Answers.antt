@@ -1,5 +1,4 @@
 -- `writable::past_end` meets its contract: it is the definition's test of an XF load, and no other command has one.
-use borrow.Author.Rules.{rules}
 use Rattle.writable.proofs.Others.{no_xf}
 use Rattle.writable.specs.Writable.{past_end}
 use borrow.Enum.Refused.{opened}

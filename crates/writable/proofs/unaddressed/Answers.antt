@@ -1,5 +1,4 @@
 -- `writable::unaddressed` meets its contract: it is the definition's test of a CP load, and no other command has one.
-use borrow.Author.Rules.{rules}
 use Rattle.writable.proofs.Others.{no_cp}
 use Rattle.writable.specs.Writable.{unaddressed}
 use borrow.Enum.Refused.{opened}

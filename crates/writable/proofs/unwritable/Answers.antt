@@ -1,5 +1,4 @@
 -- `writable::unwritable` meets its contract: in each arm the command is known, and the definition computes.
-use borrow.Author.Rules.{rules}
 use Rattle.writable.specs.Writable.{unwritable}
 use Rattle.writable.proofs.unwritable.Goals as goal
 

@@ -2,7 +2,6 @@
 use Prim.Native.Nat.{◌+◌, ◌*◌, ◌≤◌}
 use native.Mathlib.Omega.{arith}
 use Rattle.bulk.proofs.Drawn.{one_fits, copied_last}
-use borrow.Author.Rules.{rules}
 use Rattle.bulk.proofs.draws.copy_last.Goals as goal
 
 pub overflow_sub-start : goal.overflow_sub-start

@@ -2,7 +2,6 @@
 use native.Mathlib.Omega.{arith}
 use Rattle.command.proofs.Decided.{bytes_most}
 use Rattle.bulk.proofs.Sizes.{sized_known, sized_new}
-use borrow.Author.Rules.{rules}
 use Rattle.bulk.proofs.draws.size_of.Goals as goal
 
 pub returns-then-known-ne0 : goal.returns-then-known-ne0

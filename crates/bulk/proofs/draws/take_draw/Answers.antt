@@ -7,7 +7,6 @@ use Rattle.command.proofs.Decided.{bytes_most}
 use Rattle.walk.proofs.Walks.{moves_none}
 use Rattle.bulk.proofs.Told.{told_closed, told_left}
 use Rattle.bulk.proofs.Drawn.{head_moves}
-use borrow.Author.Rules.{rules}
 use Rattle.bulk.proofs.draws.take_draw.Goals as goal
 
 pub returns-then-bytes-at-lt3 : goal.returns-then-bytes-at-lt3

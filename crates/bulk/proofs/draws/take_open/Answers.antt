@@ -5,7 +5,6 @@ use native.Mathlib.Omega.{arith}
 use Rattle.command.proofs.Decided.{bytes_most}
 use Rattle.bulk.proofs.Told.{told_closed, told_spent, told_refused, told_left}
 use Rattle.bulk.proofs.Drawn.{size_modulo, open_none, open_some}
-use borrow.Author.Rules.{rules}
 use Rattle.bulk.proofs.draws.take_open.Goals as goal
 
 pub returns-then-left-eq0 : goal.returns-then-left-eq0

@@ -3,7 +3,6 @@ use mathlib.Core.Path.{refl}
 use Prim.Native.Nat.{◌-◌}
 use native.Mathlib.Omega.{arith}
 use Rattle.bulk.proofs.Drawn.{one_fits, vertices_none, vertices_some}
-use borrow.Author.Rules.{rules}
 use Rattle.bulk.proofs.draws.take_vertices.Goals as goal
 
 pub returns-then-n-eq0 : goal.returns-then-n-eq0

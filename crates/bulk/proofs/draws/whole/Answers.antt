@@ -1,6 +1,5 @@
 -- `bulk::whole` meets its contract: all that are left, or as many as are whole.
 use Rattle.bulk.proofs.Drawn.{fits_all, fits_least, product_fits}
-use borrow.Author.Rules.{rules}
 use Rattle.bulk.proofs.draws.whole.Goals as goal
 
 pub overflow_mul-left : goal.overflow_mul-left

@@ -1,10 +1,8 @@
 -- `bulk::execute_cp` meets its contract: a load of the VCD or a VAT leaves no size known, and every other load leaves them all.
 use mathlib.Core.Path.{sym, ◌∙◌}
 use mathlib.Core.Logic.{inl, inr}
-use borrow.Author.Tests.{not-true, not-false}
 use Rattle.bulk.proofs.Sizes.{known_none}
 use Rattle.bulk.proofs.Executed.{known_loaded, load_refused, load_accepted}
-use borrow.Author.Rules.{rules}
 use Rattle.bulk.proofs.loads.execute_cp.Goals as goal
 
 pub returns-then-not-cp_accepted : goal.returns-then-not-cp_accepted

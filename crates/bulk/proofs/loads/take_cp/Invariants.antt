@@ -1,13 +1,7 @@
 -- `bulk::take_cp` meets its contract: after so many turns that many loads led from the first place to this one.
-use mathlib.Core.Path.{sym, ◌∙◌}
 use Prim.Native.Nat.{◌-◌, ◌≤◌}
-use native.Mathlib.Omega.{arith}
 use lib.ListN.{length}
-use borrow.Author.Rules.{rules}
-use borrow.Author.Tests.{not-true, not-false}
-use Rattle.walk.proofs.Walks.{moves_none, moves_next}
 use Rattle.bulk.specs.Inner.{MovesCp}
-use Rattle.bulk.proofs.Executed.{one_cp}
 use Rattle.bulk.proofs.loads.take_cp.Given as goal
 
 abbrev pub invariant-loop-units : goal.invariant-loop-units

@@ -4,7 +4,6 @@ use Rattle.walk.proofs.Walks.{moves_none, moves_most}
 use Rattle.plain.proofs.Idle.{moves_byte, moves_indexed, moves_call}
 use Rattle.bulk.proofs.Told.{told_closed}
 use Rattle.bulk.proofs.Classes.{closed_any}
-use borrow.Author.Rules.{rules}
 use Rattle.bulk.proofs.straight.take_class.Goals as goal
 
 pub returns-in-97 : goal.returns-in-97

@@ -1,12 +1,8 @@
 -- `bulk::take_shut` meets its contract: after so many turns that many units led from the first place to this one.
-use mathlib.Core.Path.{◌≡◌, refl}
-use Prim.Native.Nat.{◌-◌, ◌≤◌}
+use mathlib.Core.Path.{refl}
 use native.Mathlib.Omega.{arith}
-use lib.ListN.{length}
 use borrow.Author.Rules.{rules}
-use Rattle.walk.specs.Moves.{Moves, shut}
 use Rattle.walk.proofs.Walks.{moves_none, moves_then}
-use Rattle.bulk.specs.Inner.{Known}
 use Rattle.bulk.proofs.Told.{told_open}
 use Rattle.bulk.proofs.straight.take_shut.Goals as goal
 

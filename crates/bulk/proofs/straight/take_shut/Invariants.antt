@@ -1,13 +1,9 @@
 -- `bulk::take_shut` meets its contract: after so many turns that many units led from the first place to this one.
-use mathlib.Core.Path.{◌≡◌, refl}
+use mathlib.Core.Path.{◌≡◌}
 use Prim.Native.Nat.{◌-◌, ◌≤◌}
-use native.Mathlib.Omega.{arith}
 use lib.ListN.{length}
-use borrow.Author.Rules.{rules}
 use Rattle.walk.specs.Moves.{Moves, shut}
-use Rattle.walk.proofs.Walks.{moves_none, moves_then}
 use Rattle.bulk.specs.Inner.{Known}
-use Rattle.bulk.proofs.Told.{told_open}
 use Rattle.bulk.proofs.straight.take_shut.Given as goal
 
 abbrev pub invariant-loop-units : goal.invariant-loop-units

@@ -3,7 +3,6 @@ use native.Mathlib.Omega.{arith}
 use Rattle.walk.proofs.Walks.{moves_then, moves_many}
 use Rattle.bulk.proofs.Told.{told_open}
 use Rattle.bulk.proofs.Sizes.{known_none}
-use borrow.Author.Rules.{rules}
 use Rattle.bulk.proofs.straight.take_straight.Goals as goal
 
 pub take_open-first-requires : goal.take_open-first-requires

@@ -1,5 +1,4 @@
 -- `command::units::look_bp` meets its contract: its fields stand big-endian after the opcode.
-use borrow.Author.Rules.{rules}
 use native.Mathlib.Nat.{zero-add}
 use Rattle.command.specs.Look.{look_bp}
 use Rattle.octets.proofs.Number.{three_bytes}

@@ -1,5 +1,4 @@
 -- `command::units::look_call` meets its contract: its fields stand big-endian after the opcode.
-use borrow.Author.Rules.{rules}
 use Rattle.command.specs.Look.{look_call}
 use Rattle.octets.proofs.Number.{four_bytes}
 use Rattle.command.proofs.units.look_call.Goals as goal

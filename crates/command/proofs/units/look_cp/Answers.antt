@@ -1,5 +1,4 @@
 -- `command::units::look_cp` meets its contract: code and definition make the same tests; its number stands big-endian after the address.
-use borrow.Author.Rules.{rules}
 use borrow.Author.Tests.{lt-ltb, le-ltb}
 use Rattle.command.specs.Look.{look_cp}
 use Rattle.octets.proofs.Number.{four_bytes}

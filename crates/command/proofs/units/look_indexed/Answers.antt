@@ -1,6 +1,5 @@
 -- `command::units::look_indexed` meets its contract:
 -- its fields stand big-endian after the opcode, and the address is that of the array's element.
-use borrow.Author.Rules.{rules}
 use Rattle.command.specs.Look.{look_indexed}
 use Rattle.octets.proofs.Number.{two_bytes}
 use Rattle.command.proofs.units.look_indexed.Goals as goal

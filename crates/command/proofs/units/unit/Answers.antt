@@ -1,5 +1,4 @@
 -- `command::units::unit` meets its contract: code and definition make the same test.
-use borrow.Author.Rules.{rules}
 use borrow.Author.Tests.{lt-ltb, le-ltb}
 use Rattle.command.specs.Look.{whole}
 use Rattle.command.proofs.units.unit.Goals as goal

@@ -1,5 +1,4 @@
 -- `encoding::attributes::attribute_words` meets its contract: in each arm the answer is known, and the definition computes.
-use borrow.Author.Rules.{rules}
 use Rattle.encoding.proofs.attributes.attribute_words.Goals as goal
 
 pub returns-in-Absent : goal.returns-in-Absent

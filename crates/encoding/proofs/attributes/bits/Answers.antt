@@ -1,5 +1,4 @@
 -- `encoding::attributes::bits` meets its contract: a float that differs from itself is the NaN, and no other is one.
-use borrow.Author.Rules.{rules}
 use lib.Ieee.{to_bits}
 use Rattle.encoding.proofs.Floats.{differs_nan, same_number}
 use Rattle.encoding.proofs.attributes.bits.Goals as goal

@@ -1,5 +1,4 @@
 -- `encoding::attributes::descriptor` meets its contract: it reads the words in their places.
-use borrow.Author.Rules.{rules}
 use mathlib.Core.Path.{refl}
 use Rattle.encoding.specs.Named.{format_named}
 use Rattle.encoding.proofs.attributes.descriptor.Goals as goal

@@ -1,5 +1,4 @@
 -- `encoding::attributes::triple_words` meets its contract: it lists the fields in their order.
-use borrow.Author.Rules.{rules}
 use Rattle.encoding.proofs.attributes.triple_words.Goals as goal
 
 pub returns : goal.returns

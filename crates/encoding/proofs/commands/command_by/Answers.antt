@@ -1,7 +1,6 @@
 -- `encoding::commands::command_by` meets its contract: in each arm the kind is known, and the definition computes.
 use borrow.Author.Tests.{ne_eqb}
 use Rattle.encoding.specs.Named.{command_by}
-use borrow.Author.Rules.{rules}
 use Rattle.encoding.proofs.commands.command_by.Goals as goal
 
 pub returns-in-0 : goal.returns-in-0

@@ -1,6 +1,5 @@
 -- `encoding::commands::draw_head` meets its contract: the fields are tested for their bits.
 use borrow.Author.Tests.{lt-ltb, le-ltb}
-use borrow.Author.Rules.{rules}
 use Rattle.encoding.proofs.commands.draw_head.Goals as goal
 
 pub returns-then-primitive-ge256 : goal.returns-then-primitive-ge256

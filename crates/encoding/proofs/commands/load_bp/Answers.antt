@@ -1,6 +1,5 @@
 -- `encoding::commands::load_bp` meets its contract: the field is tested for its bits.
 use borrow.Author.Tests.{lt-ltb, le-ltb}
-use borrow.Author.Rules.{rules}
 use Rattle.encoding.proofs.commands.load_bp.Goals as goal
 
 pub returns-then-register-ge256 : goal.returns-then-register-ge256

@@ -1,6 +1,5 @@
 -- `encoding::commands::load_cp` meets its contract: the field is tested for its bits.
 use borrow.Author.Tests.{lt-ltb, le-ltb}
-use borrow.Author.Rules.{rules}
 use Rattle.encoding.proofs.commands.load_cp.Goals as goal
 
 pub returns-then-address-ge256 : goal.returns-then-address-ge256

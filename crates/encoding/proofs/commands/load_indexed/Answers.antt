@@ -1,6 +1,5 @@
 -- `encoding::commands::load_indexed` meets its contract: the fields are tested for their bits.
 use borrow.Author.Tests.{lt-ltb, le-ltb}
-use borrow.Author.Rules.{rules}
 use Rattle.encoding.proofs.commands.load_indexed.Goals as goal
 
 pub returns-then-index-ge65536 : goal.returns-then-index-ge65536

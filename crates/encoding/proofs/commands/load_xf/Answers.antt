@@ -1,6 +1,5 @@
 -- `encoding::commands::load_xf` meets its contract: the fields are tested for their bits.
 use borrow.Author.Tests.{lt-ltb, le-ltb}
-use borrow.Author.Rules.{rules}
 use Rattle.encoding.proofs.commands.load_xf.Goals as goal
 
 pub returns-then-words-ge256 : goal.returns-then-words-ge256

@@ -1,5 +1,4 @@
 -- `encoding::commands::unit_words` meets its contract: in each arm the command is known, and the definition computes.
-use borrow.Author.Rules.{rules}
 use Rattle.encoding.proofs.commands.unit_words.Goals as goal
 
 pub returns-in-NoOperation : goal.returns-in-NoOperation

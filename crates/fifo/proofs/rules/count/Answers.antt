@@ -2,7 +2,6 @@
 use mathlib.Core.Path.{sym, ◌∙◌}
 use Rattle.fifo.specs.Answers.{count_answer}
 use Rattle.fifo.proofs.WindowLaws.{gap_count, valid_true}
-use borrow.Author.Rules.{rules}
 use Rattle.fifo.proofs.rules.count.Goals as goal
 
 pub returns-then-valid : goal.returns-then-valid

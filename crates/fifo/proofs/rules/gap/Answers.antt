@@ -1,7 +1,6 @@
 -- `fifo::rules::gap` meets its contract: each of the two orders of the pointers picks its arm.
 use borrow.Author.Tests.{le-leb, lt-leb}
 use Rattle.fifo.specs.Window.{gap_of}
-use borrow.Author.Rules.{rules}
 use Rattle.fifo.proofs.rules.gap.Goals as goal
 
 pub returns-then-read-write : goal.returns-then-read-write

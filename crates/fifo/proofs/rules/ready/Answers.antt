@@ -1,6 +1,5 @@
 -- `fifo::rules::ready` meets its contract: its two tests are those of the definition.
 use Rattle.fifo.specs.Window.{ready_by}
-use borrow.Author.Rules.{rules}
 use Rattle.fifo.proofs.rules.ready.Goals as goal
 
 pub returns : goal.returns

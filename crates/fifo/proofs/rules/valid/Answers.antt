@@ -1,6 +1,5 @@
 -- `fifo::rules::valid` meets its contract: its tests are the rules, in their order.
 use Rattle.fifo.specs.Window.{valid_by, size_limit}
-use borrow.Author.Rules.{rules}
 use Rattle.fifo.proofs.rules.valid.Goals as goal
 
 pub returns : goal.returns

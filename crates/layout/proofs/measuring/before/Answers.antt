@@ -8,7 +8,6 @@ use Rattle.layout.specs.Sizes.{offset_of}
 use Rattle.layout.proofs.Bounds.{offset_le}
 use Rattle.fields.proofs.Modes.{beyond}
 use Rattle.layout.proofs.Sums.{Sums, sums}
-use borrow.Author.Rules.{rules}
 use Rattle.layout.proofs.measuring.before.Goals as goal
 
 -- all sums, after the matrices

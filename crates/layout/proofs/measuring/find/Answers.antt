@@ -3,7 +3,6 @@ use mathlib.Core.Path.{sym, ap, ◌∙◌}
 use native.Mathlib.Omega.{arith}
 use Rattle.layout.specs.Sizes.{offset_of}
 use Prim.Native.Nat.{min, ℕ}
-use borrow.Author.Rules.{rules}
 use Rattle.layout.proofs.measuring.find.Goals as goal
 
 pub returns-then-k-eq-POSITION : goal.returns-then-k-eq-POSITION

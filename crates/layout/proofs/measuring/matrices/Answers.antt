@@ -2,7 +2,6 @@
 use native.Mathlib.Omega.{arith}
 use lib.Pow.{pow_pos}
 use Rattle.layout.proofs.Present.{one_bit, matrices_are}
-use borrow.Author.Rules.{rules}
 use Rattle.layout.proofs.measuring.matrices.Goals as goal
 
 pub nonzero_rem-result : goal.nonzero_rem-result

@@ -2,7 +2,6 @@
 use mathlib.Core.Path.{refl}
 use Rattle.fields.specs.Fields.{bits_at, modes, mode_of}
 use Rattle.layout.proofs.Meanings.{measured}
-use borrow.Author.Rules.{rules}
 use Rattle.layout.proofs.measuring.measured.Goals as goal
 
 pub returns : goal.returns

@@ -9,7 +9,6 @@ use Rattle.layout.specs.Sizes.{offset_of}
 use Rattle.layout.proofs.Bounds.{offset_le}
 use Rattle.layout.proofs.Present.{matrices_are}
 use Rattle.layout.proofs.Sums.{Sums, sums}
-use borrow.Author.Rules.{rules}
 use Rattle.layout.proofs.measuring.total.Goals as goal
 
 -- all sums, after the matrices

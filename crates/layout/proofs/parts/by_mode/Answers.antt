@@ -4,7 +4,6 @@ use native.Mathlib.Nat.{lt_of_le_of_lt, mul-le-mul}
 use native.Mathlib.Omega.{arith}
 use lib.Dec.{lit<}
 use borrow.Author.Tests.{eq-eqb, ne_eqb}
-use borrow.Author.Rules.{rules}
 use Rattle.layout.proofs.parts.by_mode.Goals as goal
 
 pub returns-then-mode-eq0 : goal.returns-then-mode-eq0

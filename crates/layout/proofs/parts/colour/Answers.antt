@@ -1,6 +1,5 @@
 -- A direct colour has its bytes from its format alone.
 use Rattle.layout.specs.Sizes.{direct_of}
-use borrow.Author.Rules.{rules}
 use Rattle.layout.proofs.parts.colour.Goals as goal
 
 pub returns : goal.returns

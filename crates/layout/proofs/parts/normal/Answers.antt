@@ -3,7 +3,6 @@ use mathlib.Core.Path.{ap, ◌∙◌}
 use Prim.Native.Nat.{ℕ, ◌*◌}
 use native.Mathlib.Omega.{arith}
 use Rattle.layout.proofs.Packed.{normal_entry}
-use borrow.Author.Rules.{rules}
 use Rattle.layout.proofs.parts.normal.Goals as goal
 
 pub returns : goal.returns

@@ -2,7 +2,6 @@
 use mathlib.Core.Path.{◌∙◌}
 use native.Mathlib.Omega.{arith}
 use Rattle.layout.proofs.Packed.{texture_entry}
-use borrow.Author.Rules.{rules}
 use Rattle.layout.proofs.parts.texture.Goals as goal
 
 pub returns : goal.returns

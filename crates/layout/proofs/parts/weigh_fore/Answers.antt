@@ -1,8 +1,6 @@
 -- Each attribute is weighed by its fields at their places; absent ones add nothing.
-use Rattle.fields.specs.declared.Descriptor.{Descriptor}
 use Rattle.layout.specs.Inner.{asked}
 use Rattle.layout.proofs.Weighed.{fore_of, fore_alone}
-use borrow.Author.Rules.{rules}
 use Rattle.layout.proofs.parts.weigh_fore.Goals as goal
 
 pub returns-then-vcd0-eq0 : goal.returns-then-vcd0-eq0

@@ -1,9 +1,7 @@
 -- Each texture is weighed by its fields at their places; absent ones add nothing.
-use Rattle.fields.specs.declared.Descriptor.{Descriptor}
 use Rattle.layout.specs.Inner.{asked}
 use Rattle.layout.proofs.Present.{textures_absent}
 use Rattle.layout.proofs.Weighed.{textures_of}
-use borrow.Author.Rules.{rules}
 use Rattle.layout.proofs.parts.weigh_textures.Goals as goal
 
 -- the descriptor of the five words

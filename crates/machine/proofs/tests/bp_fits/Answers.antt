@@ -7,7 +7,6 @@ use native.Mathlib.Nat.{le_refl, le_of_eq}
 use lib.ListN.{length, take, drop}
 use lib.Seq.{take_all}
 use Rattle.machine.specs.Gate.{all_below, bp_fits}
-use borrow.Author.Rules.{rules}
 use Rattle.machine.proofs.tests.bp_fits.Goals as goal
 
 -- as many as there are

@@ -1,5 +1,4 @@
 -- `machine::tests::cp_fits` meets its contract: the two tests are the definition's.
-use borrow.Author.Rules.{rules}
 use mathlib.Core.Bool.{◌&&◌}
 use Rattle.machine.specs.Gate.{cp_fits}
 use Rattle.machine.proofs.tests.cp_fits.Goals as goal

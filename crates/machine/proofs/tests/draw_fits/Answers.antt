@@ -1,5 +1,4 @@
 -- `machine::tests::draw_fits` meets its contract: the definition goes by the same cases.
-use borrow.Author.Rules.{rules}
 use Rattle.machine.specs.Gate.{draw_fits}
 use Rattle.machine.proofs.tests.draw_fits.Goals as goal
 

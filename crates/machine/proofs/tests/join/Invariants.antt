@@ -1,10 +1,6 @@
 -- `machine::tests::join` meets its contract: after i turns the first i are joined.
-use mathlib.Core.Path.{◌≡◌, subst}
-use Prim.Native.Nat.{ℕ, ◌-◌, ◌≤◌}
-use native.Mathlib.Omega.{arith}
+use Prim.Native.Nat.{◌-◌, ◌≤◌}
 use lib.ListN.{take, drop}
-use borrow.Author.Rules.{rules}
-use Rattle.machine.proofs.Below.{joins_none, joins_next}
 use Rattle.machine.specs.Joined.{Joins}
 use Rattle.machine.proofs.tests.join.Given as goal
 

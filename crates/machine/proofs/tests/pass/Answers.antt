@@ -1,10 +1,9 @@
 -- `machine::tests::pass` meets its contract: the tests are the definition's, in its order.
-use borrow.Author.Rules.{rules}
 use mathlib.Core.Path.{◌≡◌, refl, sym, ap, ◌∙◌}
 use mathlib.Core.Bool.{Bool, true, false, not, cond}
 use mathlib.Core.List.{[], ◌∷◌}
 use Prim.Native.Nat.{ℕ}
-use borrow.Author.Tests.{not-true, not-false, eq-eqb, ne_eqb, le-leb, lt-leb}
+use borrow.Author.Tests.{eq-eqb, ne_eqb, le-leb, lt-leb}
 use lib.Dec.{eqb}
 use Rattle.machine.specs.Gate.{gate_by, state_fits, read_bit, link_bit}
 use Rattle.machine.proofs.tests.pass.Goals as goal

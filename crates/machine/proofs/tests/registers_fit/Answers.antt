@@ -1,7 +1,6 @@
 -- `machine::tests::registers_fit` meets its contract: the three tests are the definition's.
 use mathlib.Core.Bool.{◌&&◌}
 use Rattle.machine.specs.Gate.{registers_fit}
-use borrow.Author.Rules.{rules}
 use Rattle.machine.proofs.tests.registers_fit.Goals as goal
 
 pub returns : goal.returns

@@ -1,5 +1,4 @@
 -- `machine::tests::state_fits` meets its contract: the three tests are the definition's.
-use borrow.Author.Rules.{rules}
 use Rattle.machine.specs.Gate.{state_fits, control_fits}
 use Rattle.machine.proofs.tests.state_fits.Goals as goal
 

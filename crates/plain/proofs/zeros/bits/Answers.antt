@@ -1,9 +1,6 @@
 -- `plain::bits` meets its contract: after i turns the bits are those of the first i bytes.
 use mathlib.Core.Path.{◌≡◌}
-use Prim.Native.Nat.{◌-◌, ◌≤◌}
 use native.Mathlib.Omega.{arith}
-use borrow.Author.Rules.{rules}
-use Rattle.plain.specs.Inner.{Quiet}
 use Rattle.plain.proofs.Idle.{quiet_none, quiet_more}
 use Rattle.plain.proofs.zeros.bits.Goals as goal
 

@@ -1,9 +1,6 @@
 -- `plain::skim` meets its contract: zeros up to this place, and so many more where the bits of all of them are none.
 use Prim.Native.Nat.{◌-◌}
-use native.Mathlib.Omega.{arith}
-use borrow.Author.Rules.{rules}
 use Rattle.plain.specs.Inner.{Zeros}
-use Rattle.plain.proofs.Idle.{zeros_none, zeros_more}
 use Rattle.plain.proofs.zeros.skim.Given as goal
 
 abbrev pub invariant-loop-at : goal.invariant-loop-at

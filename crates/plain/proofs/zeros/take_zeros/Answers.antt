@@ -1,7 +1,6 @@
 -- `plain::take_zeros` meets its contract: three times past zeros is past zeros, and each of them is a unit.
 use Rattle.walk.proofs.Walks.{moves_none}
 use Rattle.plain.proofs.Idle.{zeros_then, zeros_on}
-use borrow.Author.Rules.{rules}
 use Rattle.plain.proofs.zeros.take_zeros.Goals as goal
 
 pub returns-then-bytes-from : goal.returns-then-bytes-from

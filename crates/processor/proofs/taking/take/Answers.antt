@@ -1,5 +1,4 @@
 -- `processor::take` meets its contract: past the gate it is one unit of the queue, and the cursor closed is the fifo after it.
-use borrow.Author.Rules.{rules}
 use mathlib.Core.Path.{sym, ap, ◌∙◌}
 use Rattle.processor.proofs.Stepping.{steps_refused, steps_taken}
 use Rattle.processor.proofs.Bridge.{takes_opened}

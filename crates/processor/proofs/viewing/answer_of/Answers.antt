@@ -1,5 +1,4 @@
 -- `processor::viewing::answer_of` meets its contract: in each arm what was found is known.
-use borrow.Author.Rules.{rules}
 use mathlib.Core.Path.{sym, ap}
 use Rattle.command.specs.Command.{meaning}
 use Rattle.processor.proofs.viewing.answer_of.Goals as goal

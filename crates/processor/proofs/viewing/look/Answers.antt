@@ -1,5 +1,4 @@
 -- `processor::look` meets its contract: past the gate it is what the queue begins with.
-use borrow.Author.Rules.{rules}
 use mathlib.Core.Path.{sym, ap, ◌∙◌}
 use Rattle.processor.proofs.Stepping.{found_refused, looks_passed}
 use Rattle.machine.proofs.Passing.{passed}

@@ -6,7 +6,6 @@ use native.Mathlib.Omega.{arith}
 use borrow.Author.Tests.{le-leb}
 use Rattle.cursor.specs.declared.Cursor.{Cursor}
 use Rattle.cursor.specs.Cursor.{straight_by}
-use borrow.Author.Rules.{rules}
 use Rattle.running.proofs.stretch.reach.Goals as goal
 
 -- as many as are left and as there are up to the ring's end lie straight

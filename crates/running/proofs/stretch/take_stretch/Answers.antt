@@ -2,7 +2,6 @@
 use Rattle.running.proofs.Stretched.{stretch_none, stretch_some}
 use mathlib.Core.Path.{refl}
 use mathlib.Core.Logic.{inl, inr}
-use borrow.Author.Rules.{rules}
 use Rattle.running.proofs.stretch.take_stretch.Goals as goal
 
 pub returns-then-ring-end : goal.returns-then-ring-end

@@ -1,5 +1,4 @@
 -- `running::units::stop_for` meets its contract: in each arm the answer is known, and the definition computes.
-use borrow.Author.Rules.{rules}
 use Rattle.running.proofs.units.stop_for.Goals as goal
 
 pub returns-in-Done : goal.returns-in-Done

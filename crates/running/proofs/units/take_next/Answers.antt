@@ -2,7 +2,6 @@
 use native.Mathlib.Omega.{arith}
 use Rattle.unit.proofs.Found.{takes_waiting}
 use Rattle.running.proofs.Unlooked.{known_most, waits_unlooked, vertex_unlooked}
-use borrow.Author.Rules.{rules}
 use Rattle.running.proofs.units.take_next.Goals as goal
 
 pub take_vertex-requires : goal.take_vertex-requires

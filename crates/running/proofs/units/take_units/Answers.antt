@@ -5,8 +5,6 @@ use mathlib.Core.List.{List}
 use Prim.Native.Nat.{ℕ, ◌+◌, ◌-◌, ◌≤◌}
 use native.Mathlib.Omega.{arith}
 use denote.Enum.Declared.{tag_of}
-use borrow.Author.Rules.{rules}
-use lib.ListN.{length}
 use Rattle.running.proofs.Course.{Course, course_begins, course_goes, course_stops, course_ends}
 use Rattle.running.proofs.Stretched.{course_stretch, takes_course}
 use Rattle.unit.specs.contracts.StepAnswer as Answers

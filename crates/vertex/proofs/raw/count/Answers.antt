@@ -5,7 +5,6 @@ use Rattle.fields.specs.declared.Field.{Field}
 use Rattle.fields.specs.Fields.{mode_of, format_of}
 use Rattle.fields.specs.Components.{components_of}
 use Rattle.vertex.proofs.Lists.{singles_indirect, singles_other, singles_by}
-use borrow.Author.Rules.{rules}
 use Rattle.vertex.proofs.raw.count.Goals as goal
 
 pub returns-then-mode-ne1 : goal.returns-then-mode-ne1

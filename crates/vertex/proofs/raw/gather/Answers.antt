@@ -1,10 +1,8 @@
 -- After i turns the array holds the words below i.
-use mathlib.Core.Path.{◌≡◌, refl}
-use Prim.Native.Nat.{◌-◌, ◌<◌, ◌≤◌}
+use mathlib.Core.Path.{refl}
+use Prim.Native.Nat.{◌<◌}
 use native.Mathlib.Omega.{arith}
-use borrow.Author.Rules.{rules}
-use lib.ListN.{length, take, replicate, length-set}
-use Rattle.laws.specs.Values.{up_to}
+use lib.ListN.{length, replicate, length-set}
 use Rattle.laws.proofs.Filled.{fill_none, fill_next, fill_all}
 use Rattle.vertex.specs.Attributes.{word_at, words_of}
 use Rattle.vertex.proofs.raw.gather.Goals as goal

@@ -1,12 +1,9 @@
 -- After i turns the array holds the words below i.
-use mathlib.Core.Path.{◌≡◌, refl}
-use Prim.Native.Nat.{◌-◌, ◌<◌, ◌≤◌}
-use native.Mathlib.Omega.{arith}
-use borrow.Author.Rules.{rules}
-use lib.ListN.{length, take, replicate, length-set}
+use mathlib.Core.Path.{◌≡◌}
+use Prim.Native.Nat.{◌-◌, ◌≤◌}
+use lib.ListN.{length, take}
 use Rattle.laws.specs.Values.{up_to}
-use Rattle.laws.proofs.Filled.{fill_none, fill_next, fill_all}
-use Rattle.vertex.specs.Attributes.{word_at, words_of}
+use Rattle.vertex.specs.Attributes.{word_at}
 use Rattle.vertex.proofs.raw.gather.Given as goal
 
 abbrev pub invariant-loop-i : goal.invariant-loop-i

@@ -1,6 +1,5 @@
 -- The code tests as the definition does.
 use borrow.Author.Tests.{lt-ltb, le-ltb}
-use borrow.Author.Rules.{rules}
 use Rattle.vertex.proofs.raw.word_at.Goals as goal
 
 pub returns-then-n-i : goal.returns-then-n-i

@@ -2,7 +2,6 @@
 use mathlib.Core.Path.{sym}
 use native.Mathlib.Omega.{arith}
 use Rattle.octets.proofs.Number.{one_byte}
-use borrow.Author.Rules.{rules}
 use Rattle.whole.proofs.components.byte_in.Goals as goal
 
 pub overflow_cast-result : goal.overflow_cast-result

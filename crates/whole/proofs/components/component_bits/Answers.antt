@@ -8,7 +8,6 @@ use Rattle.component.specs.Component.{component_of}
 use Rattle.component.proofs.Widths.{width_single}
 use Rattle.vertex.specs.Attributes.{raw_at, component_at}
 use Rattle.whole.proofs.Singles.{single_is}
-use borrow.Author.Rules.{rules}
 use Rattle.whole.proofs.components.component_bits.Goals as goal
 
 pub byte_in-requires : goal.byte_in-requires

@@ -1,6 +1,5 @@
 -- One component after the other.
 use Rattle.laws.specs.Values.{up_to}
-use borrow.Author.Rules.{rules}
 use Rattle.whole.proofs.components.frame_words.Goals as goal
 
 pub returns : goal.returns

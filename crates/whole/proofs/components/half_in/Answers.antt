@@ -1,7 +1,6 @@
 -- Two bytes, the highest first.
 use mathlib.Core.Path.{sym, ◌∙◌}
 use Rattle.octets.proofs.Number.{two_bytes}
-use borrow.Author.Rules.{rules}
 use Rattle.whole.proofs.components.half_in.Goals as goal
 
 pub returns : goal.returns

@@ -1,7 +1,6 @@
 -- By so many bytes.
 use native.Mathlib.Omega.{arith}
 use borrow.Author.Tests.{le-ltb}
-use borrow.Author.Rules.{rules}
 use Rattle.whole.proofs.components.number_in.Goals as goal
 
 pub returns-in-1 : goal.returns-in-1

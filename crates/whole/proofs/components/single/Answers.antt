@@ -1,7 +1,6 @@
 -- The component, by its bits.
 use mathlib.Core.Path.{ap, ◌∙◌}
 use lib.Ieee.{Float, binary32, to_bits}
-use borrow.Author.Rules.{rules}
 use Rattle.whole.proofs.components.single.Goals as goal
 
 pub returns : goal.returns

@@ -1,7 +1,6 @@
 -- Three bytes, the highest first.
 use native.Mathlib.Omega.{arith}
 use Rattle.octets.proofs.Number.{three_bytes}
-use borrow.Author.Rules.{rules}
 use Rattle.whole.proofs.components.three_in.Goals as goal
 
 pub returns : goal.returns

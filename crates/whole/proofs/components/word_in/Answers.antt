@@ -1,7 +1,6 @@
 -- Four bytes, the highest first.
 use mathlib.Core.Path.{sym, ◌∙◌}
 use Rattle.octets.proofs.Number.{four_bytes}
-use borrow.Author.Rules.{rules}
 use Rattle.whole.proofs.components.word_in.Goals as goal
 
 pub returns : goal.returns

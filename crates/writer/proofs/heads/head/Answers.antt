@@ -1,5 +1,4 @@
 -- `writer::heads::head` meets its contract: in each arm the command is known, and its class has its own function.
-use borrow.Author.Rules.{rules}
 use mathlib.Core.Path.{◌≡◌, refl}
 use mathlib.Core.List.{List, [], ◌∷◌}
 use Prim.Native.Nat.{ℕ}

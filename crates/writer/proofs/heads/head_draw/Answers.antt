@@ -1,5 +1,4 @@
 -- `writer::heads::head_draw` meets its contract: its bytes are the definition's, byte by byte.
-use borrow.Author.Rules.{rules}
 use lib.Dec.{lit≤}
 use mathlib.Core.Path.{refl}
 use Rattle.writer.specs.Write.{head_of}
