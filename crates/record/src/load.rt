@@ -1,26 +1,20 @@
-// A recording read: its head into registers and XF words, its stream only counted.
-use crate::pass;
-use crate::pass::Pass;
+// A recording read: its head into registers and XF words, and its stream.
+use crate::input;
 use crate::verdict::Verdict;
-use libc::STDIN_FILENO;
 use recording::HEAD_LENGTH;
-use std::num::wrapping_add_u32;
+use std::alloc::Global;
+use std::io::Read;
 
-// The pass over the stream of a recording that is in order; or how the program ends where it is not.
-#[derive(Clone, Copy)]
+// The stream of a recording that is in order; or how the program ends where it is not.
+#[derive(Drop)]
 pub enum Loaded {
-    Stream(Pass),
+    Stream(Vec<u8>),
     Not(Verdict),
 }
 
-// Whether standard input is a recording, which begins with 256, the count of its BP registers: no raw stream gets past its third byte with
-// these. It is left where it stood.
-pub fn is_recording() -> bool {
-    let start = pass::place(STDIN_FILENO);
-    let mut first = [0u8; 4];
-    let n = io::read_full(STDIN_FILENO, &mut first);
-    pass::go_back(start);
-    (n == 4) & (first[0] == 0) & (first[1] == 0) & (first[2] == 1) & (first[3] == 0)
+// Whether an input is a recording, which begins with 256, the count of its BP registers: no raw stream gets past its third byte with these.
+pub fn is_recording(bytes: &[u8]) -> bool {
+    bytes.starts_with(&[0, 0, 1, 0])
 }
 
 // A head that is bad, at the byte of its first fault.
@@ -32,47 +26,52 @@ fn refuse(number: u32, head: &[u8]) -> Loaded {
 // Where the bytes behind a head end, or ought to: what comes first.
 fn rest_end(told: u32, rest: usize) -> u32 {
     if rest < told as usize {
-        return wrapping_add_u32(HEAD_LENGTH as u32, rest as u32);
+        return (HEAD_LENGTH as u32).wrapping_add(rest as u32);
     }
-    wrapping_add_u32(HEAD_LENGTH as u32, told)
+    (HEAD_LENGTH as u32).wrapping_add(told)
 }
 
-// Counts the bytes behind a head, which tells how many there are.
-fn load_rest(descriptor: i32, told: u32) -> Loaded {
-    let rest = pass::count(descriptor, told as usize);
+// Reads the bytes behind a head, which tells how many there are, and one more where there are more.
+fn load_rest(alloc: Global, input: &mut impl Read, told: u32) -> Loaded {
+    let rest = input::read(alloc, input, told as usize + 1);
     if rest.is_failed {
         return Loaded::Not(Verdict::Unreadable);
     }
-    let number = duckhammock::duckhammock_check_recording_rest(told, rest.count);
+    let count = rest.bytes.len();
+    let number = duckhammock::duckhammock_check_recording_rest(told, count);
     if number != 0 {
-        let place = rest_end(told, rest.count);
+        let place = rest_end(told, count);
         return Loaded::Not(Verdict::Bad { number, place });
     }
-    Loaded::Stream(rest)
+    Loaded::Stream(rest.bytes)
 }
 
 // Reads what stands before the stream of a recording, as far as it is there, and goes on behind it.
-fn load_head(descriptor: i32, state: &mut [u32; 327], xf: &mut [u32; 4184], head: &[u8]) -> Loaded {
+fn load_head(
+    alloc: Global,
+    input: &mut impl Read,
+    state: &mut [u32; 327],
+    xf: &mut [u32; 4184],
+    head: &[u8],
+) -> Loaded {
     let mut told: u32 = 0;
     let number = duckhammock::duckhammock_read_recording_head(state, head, xf, &mut told);
     if number != 0 {
         return refuse(number, head);
     }
-    load_rest(descriptor, told)
+    load_rest(alloc, input, told)
 }
 
-// Whether a read fails: the next one, where a head is short.
-fn is_failing(descriptor: i32, count: usize) -> bool {
-    let mut more = [0u8; 1];
-    count < HEAD_LENGTH && libc::read(descriptor, &mut more) < 0
-}
-
-// Reads a recording from a descriptor to its end: its registers and XF words, and how long its stream is.
-pub fn load(descriptor: i32, state: &mut [u32; 327], xf: &mut [u32; 4184]) -> Loaded {
-    let mut bytes = [0u8; HEAD_LENGTH];
-    let count = io::read_full(descriptor, &mut bytes);
-    if is_failing(descriptor, count) {
+// Reads a recording from an input to its end: its registers and XF words, and its stream.
+pub fn load(
+    alloc: Global,
+    input: &mut impl Read,
+    state: &mut [u32; 327],
+    xf: &mut [u32; 4184],
+) -> Loaded {
+    let head = input::read(alloc, input, HEAD_LENGTH);
+    if head.is_failed {
         return Loaded::Not(Verdict::Unreadable);
     }
-    load_head(descriptor, state, xf, &bytes[..count])
+    load_head(alloc, input, state, xf, head.bytes.as_slice())
 }

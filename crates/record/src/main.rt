@@ -5,100 +5,126 @@
 //   registers   the same with the registers and XF words of the recording on descriptor 3
 //   stream      the stream of the recording on standard input
 //
-// A stream may be longer than any buffer here, and a recording tells its length before it. So standard input is gone over twice, to count
-// and to copy, and must be a file. Nothing is written before all that is read was found to be in order. How it ended is told by a line on
-// standard error.
+// A recording tells how long its stream is before it. So the stream is held in memory, with a byte more where it is too long. Nothing is
+// written before all that is read was found to be in order. How it ended is told by a line on standard error.
+#![tactic(auto)]
+
+mod input;
 mod load;
-mod pass;
 mod verdict;
 
-use libc::STDIN_FILENO;
 use load::Loaded;
-use pass::Pass;
 use recording::HEAD_LENGTH;
+use std::rt::{Env, Files};
 use verdict::Verdict;
 
-// The descriptor of the recording whose registers are taken.
-const OTHER: i32 = 3;
+// Writes a head and a stream behind it.
+fn copy(rt: &impl Print, head: &[u8], stream: &[u8]) -> Verdict {
+    if rt.write_all(head).is_err() || rt.write_all(stream).is_err() {
+        return Verdict::Unwritable;
+    }
+    Verdict::Written
+}
 
-// Writes a recording: what stands before the stream, and the stream that was counted.
-fn write_recording(state: &[u32; 327], xf: &[u32; 4184], stream: Pass) -> Verdict {
+// Writes a recording: what stands before the stream, and the stream.
+fn write_recording(
+    rt: &impl Print,
+    state: &[u32; 327],
+    xf: &[u32; 4184],
+    stream: &[u8],
+) -> Verdict {
     let mut head = [0u8; HEAD_LENGTH];
     let mut written: u32 = 0;
     let number = duckhammock::duckhammock_write_recording_head(
         state,
         xf,
-        stream.count,
+        stream.len(),
         &mut head,
         &mut written,
     );
     if number != 0 {
         return Verdict::Refused(number);
     }
-    pass::copy(&head, stream)
+    copy(rt, &head, stream)
 }
 
 // Records the raw stream on standard input with these registers.
-fn record(state: &[u32; 327], xf: &[u32; 4184]) -> Verdict {
-    if load::is_recording() {
+fn record(
+    rt: &(impl AllocGlobal + Input + Print),
+    state: &[u32; 327],
+    xf: &[u32; 4184],
+) -> Verdict {
+    let mut stdin = rt.reader();
+    let stream = input::read(rt.alloc(), &mut stdin, recording::STREAM_LIMIT as usize + 1);
+    if load::is_recording(stream.bytes.as_slice()) {
         return Verdict::IsRecording;
     }
-    let stream = pass::count(STDIN_FILENO, recording::STREAM_LIMIT as usize);
     if stream.is_failed {
         return Verdict::Unreadable;
     }
-    write_recording(state, xf, stream)
+    write_recording(rt, state, xf, stream.bytes.as_slice())
 }
 
 // Records it with fresh registers.
-fn record_fresh() -> Verdict {
+fn record_fresh(rt: &(impl AllocGlobal + Input + Print)) -> Verdict {
     let mut state = [0u32; 327];
     let xf = [0u32; 4184];
     duckhammock::duckhammock_fresh(&mut state);
-    record(&state, &xf)
+    record(rt, &state, &xf)
+}
+
+// Reads the other recording to its end, and closes it.
+fn load_other(
+    rt: &(impl Files + AllocGlobal),
+    state: &mut [u32; 327],
+    xf: &mut [u32; 4184],
+) -> Loaded {
+    match input::open_other(rt) {
+        Some(mut other) => load::load(rt.alloc(), &mut other, state, xf),
+        None => Loaded::Not(Verdict::Unreadable),
+    }
 }
 
 // Records it with the registers and XF words of another recording, which is read to its end.
-fn record_by_other() -> Verdict {
+fn record_by_other(rt: &(impl Files + AllocGlobal + Input + Print)) -> Verdict {
     let mut state = [0u32; 327];
     let mut xf = [0u32; 4184];
     duckhammock::duckhammock_fresh(&mut state);
-    let loaded = load::load(OTHER, &mut state, &mut xf);
-    match loaded {
-        Loaded::Stream(_) => record(&state, &xf),
+    match load_other(rt, &mut state, &mut xf) {
+        Loaded::Stream(_) => record(rt, &state, &xf),
         Loaded::Not(verdict) => verdict,
     }
 }
 
 // Writes the stream of the recording on standard input.
-fn write_stream() -> Verdict {
+fn write_stream(rt: &(impl AllocGlobal + Input + Print)) -> Verdict {
     let mut state = [0u32; 327];
     let mut xf = [0u32; 4184];
-    let loaded = load::load(STDIN_FILENO, &mut state, &mut xf);
-    match loaded {
-        Loaded::Stream(stream) => pass::copy(&[], stream),
+    let mut stdin = rt.reader();
+    match load::load(rt.alloc(), &mut stdin, &mut state, &mut xf) {
+        Loaded::Stream(stream) => copy(rt, &[], stream.as_slice()),
         Loaded::Not(verdict) => verdict,
     }
 }
 
 // The first letter of the first argument, 0 where there is none.
-fn letter() -> u8 {
+fn letter(rt: &impl Env) -> u8 {
     let mut word = [0u8; 16];
-    os::arg(1, &mut word);
+    let _ = rt.arg(1, &mut word);
     word[0]
 }
 
 // Does what the letter says.
-fn act() -> Verdict {
-    match letter() {
-        0 => record_fresh(),
-        b'r' => record_by_other(),
-        b's' => write_stream(),
+fn act(rt: &(impl Files + Env + AllocGlobal + Input + Print)) -> Verdict {
+    match letter(rt) {
+        0 => record_fresh(rt),
+        b'r' => record_by_other(rt),
+        b's' => write_stream(rt),
         _ => Verdict::Unknown,
     }
 }
 
 // Does it, and tells how it ended.
-fn main() {
-    verdict::tell(act());
+fn main(rt: HostRuntime) {
+    verdict::tell(&rt, act(&rt));
 }

@@ -1,7 +1,8 @@
 // The first bytes of the input: by four of them a recording is told from a raw stream, and a recording's head is read whole.
-use crate::text;
-use libc::STDIN_FILENO;
-use std::num::wrapping_add_usize;
+ghost use Rattle.std.specs.Prelude.{IfOk, ◌≤◌, length};
+
+use std::io;
+use std::io::Read;
 
 // How many bytes are at the front of a buffer; whether the input has ended, and whether that was a read that failed.
 #[derive(Clone, Copy)]
@@ -25,7 +26,7 @@ pub fn is_recording(head: &[u8; 18016], count: usize) -> bool {
 }
 
 // Reads once, behind the bytes that are there and no further than `end`.
-fn read_once(buffer: &mut [u8], at: usize, end: usize) -> Got {
+fn read_once(input: &mut impl Read, buffer: &mut [u8], at: usize, end: usize) -> Got {
     if end > buffer.len() || at > end {
         return Got {
             count: at,
@@ -33,69 +34,86 @@ fn read_once(buffer: &mut [u8], at: usize, end: usize) -> Got {
             is_failed: false,
         };
     }
-    let part = &mut buffer[at..end];
-    let answer = libc::read(STDIN_FILENO, part);
-    let more = io::count(answer, part);
+    let (more, is_failed) = match input.read(&mut buffer[at..end]) {
+        Ok(more) => (more, false),
+        Err(_) => (0, true),
+    };
     Got {
-        count: wrapping_add_usize(at, more),
-        has_ended: answer <= 0,
-        is_failed: answer < 0,
+        count: at.wrapping_add(more),
+        has_ended: more == 0,
+        is_failed,
     }
 }
 
 // Reads a piece once more where the bytes that are there leave open which of the two it is.
-fn read_on(head: &mut [u8; 18016], got: Got) -> Got {
+fn read_on(input: &mut impl Read, head: &mut [u8; 18016], got: Got) -> Got {
     if got.has_ended | (got.count >= 4) | !agrees(head, got.count) {
         return got;
     }
-    read_once(head, got.count, 4096)
+    read_once(input, head, got.count, 4096)
 }
 
 // Reads until the two can be told apart, or the input ends. A read gives a byte at least, so that four are enough.
-pub fn begin(head: &mut [u8; 18016]) -> Got {
+pub fn begin(input: &mut impl Read, head: &mut [u8; 18016]) -> Got {
     let got = Got {
         count: 0,
         has_ended: false,
         is_failed: false,
     };
-    let got = read_on(head, got);
-    let got = read_on(head, got);
-    let got = read_on(head, got);
-    read_on(head, got)
+    let got = read_on(input, head, got);
+    let got = read_on(input, head, got);
+    let got = read_on(input, head, got);
+    read_on(input, head, got)
 }
 
 // The first bytes of a buffer.
 pub fn front(buffer: &[u8], count: usize) -> &[u8] {
-    let n = io::count(text::signed(count), buffer);
+    let n = count.min(buffer.len());
     &buffer[..n]
 }
 
-// Whether the next read fails.
-fn is_failing() -> bool {
-    let mut more = [0u8; 1];
-    libc::read(STDIN_FILENO, &mut more) < 0
+// Reads until a buffer is full or the input ends, and tells how many bytes there are.
+fn read_full(input: &mut impl Read, buffer: &mut [u8]) -> io::Result<usize>
+    ensures { IfOk result (λ n. n ≤ length buffer.new) }
+{
+    let mut count = 0;
+    for _ in 0..u64::MAX {
+        if count >= buffer.len() {
+            break;
+        }
+        let more = input.read(&mut buffer[count..])?;
+        if more == 0 {
+            break;
+        }
+        count += more;
+    }
+    Ok(count)
 }
 
 // Reads until a buffer is full or the input ends, behind the bytes that are there.
-fn read_rest(buffer: &mut [u8], at: usize) -> usize {
+fn read_rest(input: &mut impl Read, buffer: &mut [u8], at: usize) -> io::Result<usize> {
     if at > buffer.len() {
-        return at;
+        return Ok(at);
     }
-    let more = io::read_full(STDIN_FILENO, &mut buffer[at..]);
-    wrapping_add_usize(at, more)
+    let more = read_full(input, &mut buffer[at..])?;
+    Ok(at.wrapping_add(more))
 }
 
-// Reads the rest of a head. Where it stays short, another read says whether the input ended or failed.
-pub fn fill(head: &mut [u8; 18016], got: Got) -> Got {
+// Reads the rest of a head, which stays short where the input ends.
+pub fn fill(input: &mut impl Read, head: &mut [u8; 18016], got: Got) -> Got {
     if got.has_ended {
         return got;
     }
-    let count = read_rest(head, got.count);
-    let is_short = count < 18016;
-    let is_failed = is_short && is_failing();
-    Got {
-        count,
-        has_ended: is_short,
-        is_failed,
+    match read_rest(input, head, got.count) {
+        Ok(count) => Got {
+            count,
+            has_ended: count < 18016,
+            is_failed: false,
+        },
+        Err(_) => Got {
+            count: got.count,
+            has_ended: true,
+            is_failed: true,
+        },
     }
 }

@@ -2,10 +2,11 @@
 use crate::input::Got;
 use crate::tally::Tally;
 use crate::{lines, tally};
-use libc::STDIN_FILENO;
+use std::io::Read;
 
 // Takes the next unit and tells it.
 fn take_unit(
+    rt: &impl Print,
     state: &mut [u32; 327],
     ring: &[u8; 65536],
     xf: &mut [u32; 4184],
@@ -18,28 +19,31 @@ fn take_unit(
     if number != 0 {
         return tally::stop(tally, number, lacking);
     }
-    lines::take(tally, unit, state[7] != 0)
+    lines::take(rt, tally, unit, state[7] != 0)
 }
 
 // Units until one waits or is refused. The ring holds 65,535 bytes, and a unit has one at least.
 fn take_units(
+    rt: &impl Print,
     state: &mut [u32; 327],
     ring: &[u8; 65536],
     xf: &mut [u32; 4184],
     vertex: &mut [u8; 129],
     tally: Tally,
 ) -> Tally {
-    let mut last = take_unit(state, ring, xf, vertex, tally);
-    let mut turns: u32 = 65535;
-    while turns > 0 && last.goes_on && last.number == 0 {
-        last = take_unit(state, ring, xf, vertex, last);
-        turns -= 1;
+    let mut last = take_unit(rt, state, ring, xf, vertex, tally);
+    for _ in 0..65535 {
+        if !last.goes_on || last.number != 0 {
+            break;
+        }
+        last = take_unit(rt, state, ring, xf, vertex, last);
     }
     last
 }
 
 // Feeds bytes of the stream and takes their units.
 fn take_bytes(
+    rt: &impl Print,
     state: &mut [u32; 327],
     ring: &mut [u8; 65536],
     xf: &mut [u32; 4184],
@@ -51,11 +55,12 @@ fn take_bytes(
     if number != 0 {
         return tally::stop(tally, number, 0);
     }
-    take_units(state, ring, xf, vertex, tally)
+    take_units(rt, state, ring, xf, vertex, tally)
 }
 
 // Takes what a piece of the input has of the stream. After a refusal its bytes are only counted.
 fn take_piece(
+    rt: &impl Print,
     state: &mut [u32; 327],
     ring: &mut [u8; 65536],
     xf: &mut [u32; 4184],
@@ -63,16 +68,17 @@ fn take_piece(
     piece: &[u8],
     tally: Tally,
 ) -> Tally {
-    let n = io::count(tally::left(tally), piece);
+    let n = tally::left(tally).min(piece.len());
     let next = tally::see(tally, piece.len());
     if !next.goes_on {
         return next;
     }
-    take_bytes(state, ring, xf, vertex, &piece[..n], next)
+    take_bytes(rt, state, ring, xf, vertex, &piece[..n], next)
 }
 
 // Takes the first piece of a raw stream.
 pub fn take_first(
+    rt: &impl Print,
     state: &mut [u32; 327],
     ring: &mut [u8; 65536],
     xf: &mut [u32; 4184],
@@ -82,7 +88,7 @@ pub fn take_first(
 ) -> Tally {
     let mut tally = tally::fresh(tally::UNTOLD);
     if got.count > 0 {
-        tally = take_piece(state, ring, xf, vertex, first, tally);
+        tally = take_piece(rt, state, ring, xf, vertex, first, tally);
     }
     if got.has_ended {
         return tally::end_input(tally, got.is_failed);
@@ -92,23 +98,26 @@ pub fn take_first(
 
 // Reads a piece and takes it. No byte, or a read that fails, ends the input.
 fn read_piece(
+    rt: &impl Print,
+    input: &mut impl Read,
     state: &mut [u32; 327],
     ring: &mut [u8; 65536],
     xf: &mut [u32; 4184],
     vertex: &mut [u8; 129],
     tally: Tally,
 ) -> Tally {
-    let mut piece = io::buffer();
-    let got = libc::read(STDIN_FILENO, &mut piece);
-    let n = io::count(got, &piece);
-    if n == 0 {
-        return tally::end_input(tally, got < 0);
+    let mut piece = [0u8; 4096];
+    match input.read(&mut piece) {
+        Ok(0) => tally::end_input(tally, false),
+        Ok(n) => take_piece(rt, state, ring, xf, vertex, &piece[..n], tally),
+        Err(_) => tally::end_input(tally, true),
     }
-    take_piece(state, ring, xf, vertex, &piece[..n], tally)
 }
 
-// Nothing says that an input ends, so the loop counts its turns down, from a number that no input uses up.
+// Reads pieces and takes them, as long as the tally says so.
 pub fn read_all(
+    rt: &impl Print,
+    input: &mut impl Read,
     state: &mut [u32; 327],
     ring: &mut [u8; 65536],
     xf: &mut [u32; 4184],
@@ -116,10 +125,11 @@ pub fn read_all(
     start: Tally,
 ) -> Tally {
     let mut tally = start;
-    let mut turns = u64::MAX;
-    while turns > 0 && tally::reads_on(tally) {
-        tally = read_piece(state, ring, xf, vertex, tally);
-        turns -= 1;
+    for _ in 0..u64::MAX {
+        if !tally::reads_on(tally) {
+            break;
+        }
+        tally = read_piece(rt, input, state, ring, xf, vertex, tally);
     }
     tally
 }

@@ -3,7 +3,6 @@
 use crate::tally::Tally;
 use crate::text::{put, put_count, put_decimal, put_hex};
 use crate::{lines, tally, text};
-use std::num::{wrapping_add_u64, wrapping_sub_u32};
 
 // The first BP register among the state's words.
 const BP: usize = 71;
@@ -12,7 +11,7 @@ const BP: usize = 71;
 const HEAD: u64 = 18016;
 
 // A draw that is open at the end: the vertices taken, and those that are left.
-fn tell_open(tally: Tally, left: u32) -> bool {
+fn tell_open(rt: &impl Print, tally: Tally, left: u32) -> bool {
     let mut out = [0u8; 120];
     let at = text::begin(&mut out, tally.first);
     let at = put_count(
@@ -24,7 +23,7 @@ fn tell_open(tally: Tally, left: u32) -> bool {
     );
     let at = put_decimal(&mut out, at, left as u64);
     let at = put(&mut out, at, b" left");
-    text::send(&mut out, at)
+    text::send(rt, &mut out, at)
 }
 
 // Puts a byte of the stream.
@@ -35,23 +34,21 @@ fn put_octet(out: &mut [u8; 120], at: usize, octet: u8) -> usize {
 // Puts the first of the bytes that are pending, at most eight.
 fn put_pending(out: &mut [u8; 120], at: usize, ring: &[u8; 65536], read: u32, count: u32) -> usize {
     let mut end = at;
-    let mut k: u32 = 0;
-    while k < 8 && k < count {
+    for k in 0..count.min(8) {
         let place = (read % 65536 + k) % 65536;
         end = put_octet(out, end, ring[place as usize]);
-        k += 1;
     }
     end
 }
 
 // The place of the unit that was not taken, and its first bytes.
-fn tell_place(tally: Tally, ring: &[u8; 65536], write: u32, read: u32) -> bool {
-    let count = wrapping_sub_u32(write, read) % 65536;
+fn tell_place(rt: &impl Print, tally: Tally, ring: &[u8; 65536], write: u32, read: u32) -> bool {
+    let count = write.wrapping_sub(read) % 65536;
     let mut out = [0u8; 120];
     let at = text::begin(&mut out, tally.bytes);
     let at = put(&mut out, at, b"not taken:");
     let at = put_pending(&mut out, at, ring, read, count);
-    text::send(&mut out, at)
+    text::send(rt, &mut out, at)
 }
 
 // Begins a line of BP registers.
@@ -60,7 +57,14 @@ fn begin_registers(out: &mut [u8; 120]) -> usize {
 }
 
 // Puts BP register r and the number that it holds, where that is not the fresh one; a line that is full is sent, and the next one begun.
-fn put_register(out: &mut [u8; 120], at: usize, r: u32, number: u32, fresh: u32) -> usize {
+fn put_register(
+    rt: &impl Print,
+    out: &mut [u8; 120],
+    at: usize,
+    r: u32,
+    number: u32,
+    fresh: u32,
+) -> usize {
     if number == fresh {
         return at;
     }
@@ -69,43 +73,41 @@ fn put_register(out: &mut [u8; 120], at: usize, r: u32, number: u32, fresh: u32)
     if at < 92 {
         return at;
     }
-    text::send(out, at);
+    text::send(rt, out, at);
     begin_registers(out)
 }
 
 // The BP registers that do not hold what they hold in the fresh state.
-fn tell_registers(state: &[u32; 327], fresh: &[u32; 327]) -> bool {
+fn tell_registers(rt: &impl Print, state: &[u32; 327], fresh: &[u32; 327]) -> bool {
     let mut out = [0u8; 120];
     let start = begin_registers(&mut out);
     let mut at = start;
-    let mut r: u32 = 0;
-    while r < 256 {
+    for r in 0..256u32 {
         let place = BP + r as usize;
-        at = put_register(&mut out, at, r, state[place], fresh[place]);
-        r += 1;
+        at = put_register(rt, &mut out, at, r, state[place], fresh[place]);
     }
     if at == start {
         return true;
     }
-    text::send(&mut out, at)
+    text::send(rt, &mut out, at)
 }
 
 // What was taken.
-fn tell_counts(tally: Tally) -> bool {
+fn tell_counts(rt: &impl Print, tally: Tally) -> bool {
     let mut out = [0u8; 120];
     let at = put_count(&mut out, 0, tally.units, b" unit, ", b" units, ");
     let at = put_count(&mut out, at, tally.draws, b" draw, ", b" draws, ");
     let at = put_count(&mut out, at, tally.vertices, b" vertex, ", b" vertices, ");
     let at = put_count(&mut out, at, tally.bytes, b" byte", b" bytes");
-    text::send(&mut out, at)
+    text::send(rt, &mut out, at)
 }
 
 // The end where more bytes are needed for the next unit.
-fn tell_waiting(lacking: u32) -> bool {
+fn tell_waiting(rt: &impl Print, lacking: u32) -> bool {
     let mut out = [0u8; 120];
     let at = put(&mut out, 0, b"end: waiting for ");
     let at = put_count(&mut out, at, lacking as u64, b" byte more", b" bytes more");
-    text::send(&mut out, at)
+    text::send(rt, &mut out, at)
 }
 
 // The refusals that a stream can have, in words. The others concern the window, registers and buffers, which the program sets.
@@ -121,44 +123,45 @@ fn put_reason(out: &mut [u8; 120], at: usize, number: u32) -> usize {
 }
 
 // The end where a unit is refused; the byte is its first.
-fn tell_refusal(number: u32, byte: u64) -> bool {
+fn tell_refusal(rt: &impl Print, number: u32, byte: u64) -> bool {
     let mut out = [0u8; 120];
     let at = put(&mut out, 0, b"end: refusal ");
     let at = put_decimal(&mut out, at, number as u64);
     let at = put(&mut out, at, b" at byte ");
     let at = put_decimal(&mut out, at, byte);
     let at = put_reason(&mut out, at, number);
-    text::send(&mut out, at)
+    text::send(rt, &mut out, at)
 }
 
 // The end where a read fails.
-pub fn tell_unreadable() -> bool {
-    text::send_text(b"end: the input cannot be read")
+pub fn tell_unreadable(rt: &impl Print) -> bool {
+    text::send_text(rt, b"end: the input cannot be read")
 }
 
 // Where a raw stream ends for a position that is absent: most often its registers were loaded before it begins.
-pub fn tell_hint(tally: Tally) -> bool {
+pub fn tell_hint(rt: &impl Print, tally: Tally) -> bool {
     if tally.number != 9 {
         return true;
     }
     text::send_text(
+        rt,
         b"hint: was it cut from a running game? It starts from fresh registers here, without the loads before the cut",
     )
 }
 
 // How it ended; `is_whole` where nothing is pending and no draw is open.
-pub fn tell_end(tally: Tally, is_whole: bool) -> bool {
+pub fn tell_end(rt: &impl Print, tally: Tally, is_whole: bool) -> bool {
     let number = tally.number;
     if number == tally::UNREADABLE {
-        return tell_unreadable();
+        return tell_unreadable(rt);
     }
     if is_whole {
-        return text::send_text(b"end: all read");
+        return text::send_text(rt, b"end: all read");
     }
     if number == tally::WAITING {
-        return tell_waiting(tally.lacking);
+        return tell_waiting(rt, tally.lacking);
     }
-    tell_refusal(number, tally.bytes)
+    tell_refusal(rt, number, tally.bytes)
 }
 
 // What is wrong with a recording, in words.
@@ -173,34 +176,34 @@ fn put_fault(out: &mut [u8; 120], at: usize, number: u32) -> usize {
 }
 
 // The end of a recording that is bad, with the byte where it is.
-pub fn tell_fault(number: u32, byte: u64) -> bool {
+pub fn tell_fault(rt: &impl Print, number: u32, byte: u64) -> bool {
     let mut out = [0u8; 120];
     let at = put(&mut out, 0, b"end: bad file ");
     let at = put_decimal(&mut out, at, number as u64);
     let at = put(&mut out, at, b" at byte ");
     let at = put_decimal(&mut out, at, byte);
     let at = put_fault(&mut out, at, number);
-    text::send(&mut out, at)
+    text::send(rt, &mut out, at)
 }
 
 // Where what stands behind a recording's head ends, or ought to: what comes first.
 fn rest_end(tally: Tally) -> u64 {
     if tally.seen < tally.told {
-        return wrapping_add_u64(HEAD, tally.seen);
+        return HEAD.wrapping_add(tally.seen);
     }
-    wrapping_add_u64(HEAD, tally.told)
+    HEAD.wrapping_add(tally.told)
 }
 
 // How a recording ended. What is wrong behind its head goes before what its units did.
-pub fn tell_file_end(tally: Tally, is_whole: bool, fault: u32) -> bool {
+pub fn tell_file_end(rt: &impl Print, tally: Tally, is_whole: bool, fault: u32) -> bool {
     if (tally.number == tally::UNREADABLE) | (fault == 0) {
-        return tell_end(tally, is_whole);
+        return tell_end(rt, tally, is_whole);
     }
-    tell_fault(fault, rest_end(tally))
+    tell_fault(rt, fault, rest_end(tally))
 }
 
 // The first line of a recording, with the length that it tells.
-pub fn tell_start(told: u32) -> bool {
+pub fn tell_start(rt: &impl Print, told: u32) -> bool {
     let mut out = [0u8; 120];
     let at = put(
         &mut out,
@@ -208,21 +211,27 @@ pub fn tell_start(told: u32) -> bool {
         b"start: the recording's registers, no draw open; stream of ",
     );
     let at = put_count(&mut out, at, told as u64, b" byte", b" bytes");
-    text::send(&mut out, at)
+    text::send(rt, &mut out, at)
 }
 
 // What was taken, by the fresh state and the state as it is now; whether nothing is pending and no draw is open.
-pub fn tell(tally: Tally, fresh: &[u32; 327], state: &[u32; 327], ring: &[u8; 65536]) -> bool {
+pub fn tell(
+    rt: &impl Print,
+    tally: Tally,
+    fresh: &[u32; 327],
+    state: &[u32; 327],
+    ring: &[u8; 65536],
+) -> bool {
     let is_open = state[7] != 0;
     let is_whole = !is_open & (state[4] == state[5]);
-    lines::tell_idle(tally);
+    lines::tell_idle(rt, tally);
     if is_open {
-        tell_open(tally, state[10]);
+        tell_open(rt, tally, state[10]);
     }
     if !is_whole {
-        tell_place(tally, ring, state[4], state[5]);
+        tell_place(rt, tally, ring, state[4], state[5]);
     }
-    tell_registers(state, fresh);
-    tell_counts(tally);
+    tell_registers(rt, state, fresh);
+    tell_counts(rt, tally);
     is_whole
 }

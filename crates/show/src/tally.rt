@@ -1,6 +1,5 @@
 // What was counted so far.
-use crate::{text, units};
-use std::num::wrapping_add_u64;
+use crate::units;
 
 // The number of a read that fails, which no answer has.
 pub const UNREADABLE: u32 = 256;
@@ -55,22 +54,22 @@ pub fn fresh(told: u64) -> Tally {
 pub fn count(tally: Tally, unit: [u32; 6]) -> Tally {
     let mut next = tally;
     next.number = 0;
-    next.units = wrapping_add_u64(tally.units, 1);
-    next.bytes = wrapping_add_u64(tally.bytes, unit[5] as u64);
+    next.units = tally.units.wrapping_add(1);
+    next.bytes = tally.bytes.wrapping_add(unit[5] as u64);
     if unit[0] == units::NO_OPERATION {
-        next.idle = wrapping_add_u64(tally.idle, 1);
+        next.idle = tally.idle.wrapping_add(1);
         return next;
     }
     next.idle = 0;
     if unit[0] == units::DRAW {
-        next.draws = wrapping_add_u64(tally.draws, 1);
+        next.draws = tally.draws.wrapping_add(1);
         next.taken = 0;
         next.first = next.bytes;
         return next;
     }
     if unit[0] == units::VERTEX {
-        next.vertices = wrapping_add_u64(tally.vertices, 1);
-        next.taken = wrapping_add_u64(tally.taken, 1);
+        next.vertices = tally.vertices.wrapping_add(1);
+        next.taken = tally.taken.wrapping_add(1);
     }
     next
 }
@@ -98,17 +97,13 @@ pub fn end_input(tally: Tally, is_failed: bool) -> Tally {
 // So many bytes more were read.
 pub fn see(tally: Tally, bytes: usize) -> Tally {
     let mut next = tally;
-    next.seen = wrapping_add_u64(tally.seen, bytes as u64);
+    next.seen = tally.seen.wrapping_add(bytes as u64);
     next
 }
 
-// How many bytes the stream still has, as `io::count` takes them: 65,535 where there are more.
-pub fn left(tally: Tally) -> isize {
-    if tally.told < tally.seen {
-        return 0;
-    }
-    let left = tally.told - tally.seen;
-    text::signed(left as usize)
+// How many bytes the stream still has.
+pub fn left(tally: Tally) -> usize {
+    tally.told.saturating_sub(tally.seen) as usize
 }
 
 // How many bytes stand behind a recording's head, as far as they were read.

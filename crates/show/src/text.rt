@@ -1,5 +1,5 @@
 // A line of text in a buffer: bytes are put at a place, and each function gives the place after them. What is past the end is dropped.
-use libc::STDOUT_FILENO;
+ghost use Rattle.std.specs.Prelude.{◌<◌, ◌≤◌};
 
 // Puts a byte.
 fn put_byte(out: &mut [u8; 120], at: usize, byte: u8) -> usize {
@@ -13,29 +13,31 @@ fn put_byte(out: &mut [u8; 120], at: usize, byte: u8) -> usize {
 // Puts a text.
 pub fn put(out: &mut [u8; 120], at: usize, text: &[u8]) -> usize {
     let mut end = at;
-    let mut k: usize = 0;
-    while k < text.len() {
-        end = put_byte(out, end, text[k]);
-        k += 1;
+    for byte in text {
+        end = put_byte(out, end, *byte);
     }
     end
 }
 
-// A digit above 9 as the papers write it.
-fn capital(digit: u8) -> u8 {
-    if digit > 57 {
-        return digit - 32;
+// The lowest digit of a number, above 9 in capitals, as the papers write it.
+fn digit(n: u64, base: u64) -> u8
+    requires nonzero { 0 < base }
+    requires small { base ≤ 16 }
+{
+    let low = (n % base) as u8;
+    if low > 9 {
+        return low + 55;
     }
-    digit
+    low + 48
 }
 
-// Puts digits, in capitals.
-fn put_digits(out: &mut [u8; 120], at: usize, digits: &[u8]) -> usize {
+// Puts digits behind those that are zeros in front, of which `width` are kept with what is behind them.
+fn put_digits(out: &mut [u8; 120], at: usize, digits: &[u8], width: usize) -> usize {
     let mut end = at;
-    let mut k: usize = 0;
-    while k < digits.len() {
-        end = put_byte(out, end, capital(digits[k]));
-        k += 1;
+    for k in 0..digits.len() {
+        if digits.len() - k <= width || end > at || digits[k] != b'0' {
+            end = put_byte(out, end, digits[k]);
+        }
     }
     end
 }
@@ -43,8 +45,12 @@ fn put_digits(out: &mut [u8; 120], at: usize, digits: &[u8]) -> usize {
 // Puts a number in hexadecimal, with zeros in front up to `width` digits.
 fn put_wide(out: &mut [u8; 120], at: usize, n: u64, width: usize) -> usize {
     let mut digits = [0u8; 16];
-    let k = io::hex(n, width, &mut digits);
-    put_digits(out, at, &digits[..k])
+    let mut rest = n;
+    for k in 0..16 {
+        digits[15 - k] = digit(rest, 16);
+        rest /= 16;
+    }
+    put_digits(out, at, &digits, width)
 }
 
 // Puts a name, and a number so.
@@ -56,8 +62,12 @@ pub fn put_hex(out: &mut [u8; 120], at: usize, name: &[u8], n: u32, width: usize
 // Puts a number in decimal.
 pub fn put_decimal(out: &mut [u8; 120], at: usize, n: u64) -> usize {
     let mut digits = [0u8; 20];
-    let k = io::decimal(n, &mut digits);
-    put(out, at, &digits[..k])
+    let mut rest = n;
+    for k in 0..20 {
+        digits[19 - k] = digit(rest, 10);
+        rest /= 10;
+    }
+    put_digits(out, at, &digits, 1)
 }
 
 // Puts how many there are of a thing that has a name for one and for many.
@@ -75,29 +85,21 @@ pub fn begin(out: &mut [u8; 120], offset: u64) -> usize {
     put(out, at, b"  ")
 }
 
-// A number of bytes as `io::count` takes it; 65,535 where it is higher, which is more than any piece or line has.
-pub fn signed(n: usize) -> isize {
-    if n < 65535 {
-        return n as isize;
-    }
-    65535
-}
-
 // Writes the first n bytes; false where the output is closed, here and wherever a line is sent.
-fn write_first(out: &[u8], n: usize) -> bool {
-    let k = io::count(signed(n), out);
-    io::write_all(STDOUT_FILENO, &out[..k])
+fn write_first(rt: &impl Print, out: &[u8], n: usize) -> bool {
+    let k = n.min(out.len());
+    rt.write_all(&out[..k]).is_ok()
 }
 
 // Ends the line after its first n bytes and writes it.
-pub fn send(out: &mut [u8; 120], n: usize) -> bool {
+pub fn send(rt: &impl Print, out: &mut [u8; 120], n: usize) -> bool {
     let end = put_byte(out, n, b'\n');
-    write_first(out, end)
+    write_first(rt, out, end)
 }
 
 // A line that is a text alone.
-pub fn send_text(text: &[u8]) -> bool {
+pub fn send_text(rt: &impl Print, text: &[u8]) -> bool {
     let mut out = [0u8; 120];
     let end = put(&mut out, 0, text);
-    send(&mut out, end)
+    send(rt, &mut out, end)
 }

@@ -2,6 +2,7 @@
 use crate::{line, ring};
 use command::Draw;
 use fifo::Fifo;
+use std::io;
 
 // The last answer's number and the words of its unit; the fifo and the draw after it.
 #[derive(Clone, Copy)]
@@ -74,10 +75,8 @@ fn take_units(
     units: u32,
 ) -> Taken {
     let mut last = first;
-    let mut turns = units;
-    while turns > 0 {
+    for _ in 0..units {
         last = take_next(last, memory, cp, bp, xf, buffer);
-        turns -= 1;
     }
     last
 }
@@ -130,23 +129,23 @@ fn take(bytes: &[u8], units: u32) -> Left {
 }
 
 // The line of what is left: pending bytes, vertices of the open draw, and the registers and XF words that the units here may change.
-fn write_left(left: Left) {
-    line::put(b"after it: bytes left ", left.bytes);
-    line::put(b", vertices left ", left.vertices);
-    line::put_hex(b", cp AC ", left.cp[40]);
-    line::put_hex(b", BC ", left.cp[56]);
-    line::put_hex(b", bp 41 ", left.bp[0x41]);
-    line::put_hex(b", FE ", left.bp[0xFE]);
-    line::put_hex(b", xf 1000 ", left.xf[0x1000]);
-    line::put_hex(b", 1001 ", left.xf[0x1001]);
-    line::put_hex(b", 1002 ", left.xf[0x1002]);
-    line::put_hex(b", 1003 ", left.xf[0x1003]);
-    line::put_hex(b", 1004 ", left.xf[0x1004]);
-    line::write_hex(b", 1057 ", left.xf[0x1057]);
+fn write_left(rt: &impl Print, left: Left) -> io::Result<()> {
+    line::put(rt, "after it: bytes left ", left.bytes)?;
+    line::put(rt, ", vertices left ", left.vertices)?;
+    line::put_hex(rt, ", cp AC ", left.cp[40])?;
+    line::put_hex(rt, ", BC ", left.cp[56])?;
+    line::put_hex(rt, ", bp 41 ", left.bp[0x41])?;
+    line::put_hex(rt, ", FE ", left.bp[0xFE])?;
+    line::put_hex(rt, ", xf 1000 ", left.xf[0x1000])?;
+    line::put_hex(rt, ", 1001 ", left.xf[0x1001])?;
+    line::put_hex(rt, ", 1002 ", left.xf[0x1002])?;
+    line::put_hex(rt, ", 1003 ", left.xf[0x1003])?;
+    line::put_hex(rt, ", 1004 ", left.xf[0x1004])?;
+    line::write_hex(rt, ", 1057 ", left.xf[0x1057])
 }
 
 // "10 00 F3 10 00 takes 4 words; address 1057 takes one word, two give 8."
-pub fn xf_loads() {
+pub fn xf_loads(rt: &impl Print) -> io::Result<()> {
     let left = take(
         &[
             0x10, 0x00, 0xF3, 0x10, 0x00, 0, 0, 0, 0x11, 0, 0, 0, 0x22, 0, 0, 0, 0x33, 0, 0, 0,
@@ -154,18 +153,18 @@ pub fn xf_loads() {
         ],
         1,
     );
-    line::write(b"words of 10 00 F3 10 00: ", left.unit[1]);
-    write_left(left);
+    line::write(rt, "words of 10 00 F3 10 00: ", left.unit[1])?;
+    write_left(rt, left)?;
     let left = take(&[0x10, 0x00, 0x00, 0x10, 0x57, 0, 0, 0, 0x55], 1);
-    line::write(b"words of 10 00 00 10 57: ", left.unit[1]);
-    write_left(left);
+    line::write(rt, "words of 10 00 00 10 57: ", left.unit[1])?;
+    write_left(rt, left)?;
     let left = take(&[0x10, 0x00, 0x01, 0x10, 0x57], 1);
-    line::write(b"refusal of 10 00 01 10 57: ", left.number);
-    write_left(left);
+    line::write(rt, "refusal of 10 00 01 10 57: ", left.number)?;
+    write_left(rt, left)
 }
 
 // "20 00 03 B0 00 with base 1000, stride 40 (hex) reports 10C0, 12 words."
-pub fn indexed_load() {
+pub fn indexed_load(rt: &impl Print) -> io::Result<()> {
     let left = take(
         &[
             0x08, 0xAC, 0, 0, 0x10, 0x00, 0x08, 0xBC, 0, 0, 0, 0x40, 0x20, 0x00, 0x03, 0xB0, 0x00,
@@ -173,18 +172,19 @@ pub fn indexed_load() {
         3,
     );
     line::write_hex(
-        b"address of 20 00 03 B0 00, base 1000, stride 40: ",
+        rt,
+        "address of 20 00 03 B0 00, base 1000, stride 40: ",
         left.unit[4],
-    );
-    line::write(b"words of 20 00 03 B0 00: ", left.unit[2]);
-    write_left(left);
+    )?;
+    line::write(rt, "words of 20 00 03 B0 00: ", left.unit[2])?;
+    write_left(rt, left)
 }
 
 // "FE loads 0000F0 then 00003C from FFFFFF: 000030"; "register 123450, mask 00000F, number 0000A5: 123455".
-pub fn bp_loads() {
+pub fn bp_loads(rt: &impl Print) -> io::Result<()> {
     let left = take(&[0x61, 0xFE, 0, 0, 0xF0, 0x61, 0xFE, 0, 0, 0x3C], 2);
-    line::write(b"answer to 61 FE 00 00 F0 61 FE 00 00 3C: ", left.number);
-    write_left(left);
+    line::write(rt, "answer to 61 FE 00 00 F0 61 FE 00 00 3C: ", left.number)?;
+    write_left(rt, left)?;
     let left = take(
         &[
             0x61, 0x41, 0x12, 0x34, 0x50, 0x61, 0xFE, 0, 0, 0x0F, 0x61, 0x41, 0, 0, 0xA5,
@@ -192,21 +192,22 @@ pub fn bp_loads() {
         3,
     );
     line::write(
-        b"answer to 61 41 12 34 50 61 FE 00 00 0F 61 41 00 00 A5: ",
+        rt,
+        "answer to 61 41 12 34 50 61 FE 00 00 0F 61 41 00 00 A5: ",
         left.number,
-    );
-    write_left(left);
+    )?;
+    write_left(rt, left)
 }
 
 // "90 00 00, position present, leaves no draw open": the position is of two bytes. A head of one vertex, and then its vertex.
-pub fn draws() {
+pub fn draws(rt: &impl Print) -> io::Result<()> {
     let left = take(&[0x08, 0x50, 0, 0, 0x02, 0, 0x90, 0x00, 0x00], 2);
-    line::write(b"answer to 90 00 00: ", left.number);
-    write_left(left);
+    line::write(rt, "answer to 90 00 00: ", left.number)?;
+    write_left(rt, left)?;
     let left = take(&[0x08, 0x50, 0, 0, 0x02, 0, 0x90, 0x00, 0x01, 7, 8], 2);
-    line::write(b"answer to 90 00 01: ", left.number);
-    write_left(left);
+    line::write(rt, "answer to 90 00 01: ", left.number)?;
+    write_left(rt, left)?;
     let left = take(&[0x08, 0x50, 0, 0, 0x02, 0, 0x90, 0x00, 0x01, 7, 8], 3);
-    line::write(b"answer to its vertex: ", left.number);
-    write_left(left);
+    line::write(rt, "answer to its vertex: ", left.number)?;
+    write_left(rt, left)
 }

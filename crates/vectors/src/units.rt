@@ -3,6 +3,7 @@ use crate::{line, ring};
 use command::Draw;
 use fifo::Fifo;
 use running::{Ran, Stop};
+use std::io;
 
 // A run with 256 BP registers.
 fn run_with(
@@ -55,13 +56,13 @@ fn stopped(stop: Stop) -> u32 {
 }
 
 // "Accept 44 without effect; 68 now gives refusal 6": of 44 68 one unit is taken, and 68 stays.
-pub fn metrics() {
+pub fn metrics(rt: &impl Print) -> io::Result<()> {
     let ran = run(&[0x44, 0x68], Draw::Closed, 10);
     let left = ran.fifo;
     let stop = ran.stop;
-    line::write(b"units of 44 68: ", ran.units);
-    line::write(b"what stops it: ", stopped(stop));
-    line::write(b"bytes left: ", ring::counted(left));
+    line::write(rt, "units of 44 68: ", ran.units)?;
+    line::write(rt, "what stops it: ", stopped(stop))?;
+    line::write(rt, "bytes left: ", ring::counted(left))
 }
 
 // The bytes that a run of one unit says are lacking, 0 where it does not wait.
@@ -76,40 +77,49 @@ fn lacking(bytes: &[u8], draw: Draw) -> u32 {
 
 // "one for an empty ring with no draw open, then the rest of the unit, for an XF load first of its five-byte head, then of its words; in an
 // open draw, the rest of the vertex"
-pub fn waiting() {
+pub fn waiting(rt: &impl Print) -> io::Result<()> {
     line::write(
-        b"bytes lacking in an empty ring: ",
+        rt,
+        "bytes lacking in an empty ring: ",
         lacking(&[], Draw::Closed),
-    );
-    line::write(b"bytes lacking after 08: ", lacking(&[0x08], Draw::Closed));
+    )?;
     line::write(
-        b"bytes lacking after 61 41: ",
+        rt,
+        "bytes lacking after 08: ",
+        lacking(&[0x08], Draw::Closed),
+    )?;
+    line::write(
+        rt,
+        "bytes lacking after 61 41: ",
         lacking(&[0x61, 0x41], Draw::Closed),
-    );
+    )?;
     line::write(
-        b"bytes lacking after 10 00: ",
+        rt,
+        "bytes lacking after 10 00: ",
         lacking(&[0x10, 0x00], Draw::Closed),
-    );
+    )?;
     line::write(
-        b"bytes lacking after 10 00 03 00 00: ",
+        rt,
+        "bytes lacking after 10 00 03 00 00: ",
         lacking(&[0x10, 0x00, 0x03, 0x00, 0x00], Draw::Closed),
-    );
+    )?;
     let draw = Draw::Open {
         primitive: 2,
         format: 0,
         left: 3,
     };
     line::write(
-        b"bytes lacking in an empty ring, a draw of 12 bytes a vertex open: ",
+        rt,
+        "bytes lacking in an empty ring, a draw of 12 bytes a vertex open: ",
         lacking(&[], draw),
-    );
+    )
 }
 
 // A run that its limit ends does not wait, although the ring is empty.
-pub fn stopping() {
+pub fn stopping(rt: &impl Print) -> io::Result<()> {
     let ran = run(&[0x00], Draw::Closed, 1);
     let left = ran.fifo;
     let stop = ran.stop;
-    line::write(b"what stops a run of limit 1 over 00: ", stopped(stop));
-    line::write(b"bytes left: ", ring::counted(left));
+    line::write(rt, "what stops a run of limit 1 over 00: ", stopped(stop))?;
+    line::write(rt, "bytes left: ", ring::counted(left))
 }
