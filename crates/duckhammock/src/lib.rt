@@ -1,5 +1,5 @@
-// The library's calls on numbers and slices under their names in C, for C and Rust to link, and for the programs `show` and `record`.
-// `include/duckhammock.h` says them in C's words; the crates `access`, `stepping`, `runner`, `formats`, `patching` and
+// The library's calls on numbers and slices under their names in C, for `duckhammock_c`, which exports them to C and Rust, and for the
+// programs `show` and `record`. `include/duckhammock.h` says them in C's words; the crates `access`, `stepping`, `runner`, `formats`, `patching` and
 // `filing` do them.
 //
 // The state is 327 words that the caller keeps (`words`, specs/State.antt). The number returned is 0 where the call was accepted, a unit
@@ -21,40 +21,35 @@ ghost use Rattle.recording.specs.Faults.{stream_limit, head_place, rest_fault};
 ghost use Rattle.filing.specs.Calls.{LoadsFile, LoadsHead, PutsFile, PutsHead};
 
 // The fresh state.
-#[unsafe(no_mangle)]
-pub extern "C" fn duckhammock_fresh(state: &mut [u32; 327])
+pub fn duckhammock_fresh(state: &mut [u32; 327])
     ensures { state.new ≡ fresh_words }
 {
     access::fresh(state);
 }
 
 // Reads a hardware register; the control register as its word stands.
-#[unsafe(no_mangle)]
-pub extern "C" fn duckhammock_read_register(state: &[u32; 327], offset: u16, value: &mut u32) -> u32
+pub fn duckhammock_read_register(state: &[u32; 327], offset: u16, value: &mut u32) -> u32
     ensures { ReadsRegister state.now offset value.old result value.new }
 {
     access::read_register(state, offset, value)
 }
 
 // Writes a hardware register.
-#[unsafe(no_mangle)]
-pub extern "C" fn duckhammock_write_register(state: &mut [u32; 327], offset: u16, value: u16) -> u32
+pub fn duckhammock_write_register(state: &mut [u32; 327], offset: u16, value: u16) -> u32
     ensures { WritesRegister state.old offset value result state.new }
 {
     access::write_register(state, offset, value)
 }
 
 // Feeds bytes to the ring.
-#[unsafe(no_mangle)]
-pub extern "C" fn duckhammock_feed(state: &mut [u32; 327], ring: &mut [u8], bytes: &[u8]) -> u32
+pub fn duckhammock_feed(state: &mut [u32; 327], ring: &mut [u8], bytes: &[u8]) -> u32
     ensures { Feeds state.old ring.old bytes.now result state.new ring.new }
 {
     access::feed(state, ring, bytes)
 }
 
 // Tells the next unit and changes nothing else: its command's five words and how many bytes it has; where it waits, how many are lacking.
-#[unsafe(no_mangle)]
-pub extern "C" fn duckhammock_look(
+pub fn duckhammock_look(
     state: &[u32; 327],
     ring: &[u8],
     xf: &[u32],
@@ -69,8 +64,7 @@ pub extern "C" fn duckhammock_look(
 }
 
 // Takes the next unit, and tells what a look at it tells.
-#[unsafe(no_mangle)]
-pub extern "C" fn duckhammock_take(
+pub fn duckhammock_take(
     state: &mut [u32; 327],
     ring: &[u8],
     xf: &mut [u32],
@@ -87,8 +81,7 @@ pub extern "C" fn duckhammock_take(
 }
 
 // Takes units until the limit, waiting or a refusal. Its report: the units done, and the bytes lacking, 0 unless it waits.
-#[unsafe(no_mangle)]
-pub extern "C" fn duckhammock_run(
+pub fn duckhammock_run(
     state: &mut [u32; 327],
     ring: &[u8],
     xf: &mut [u32],
@@ -104,8 +97,7 @@ pub extern "C" fn duckhammock_run(
 }
 
 // The layout of a vertex: each attribute's bytes, the sum of those before it, and the length.
-#[unsafe(no_mangle)]
-pub extern "C" fn duckhammock_lay_out(
+pub fn duckhammock_lay_out(
     format: &[u32; 5],
     sizes: &mut [u8; 21],
     offsets: &mut [u8; 21],
@@ -118,8 +110,7 @@ pub extern "C" fn duckhammock_lay_out(
 }
 
 // One attribute of a vertex: its kind and nine values, zeros where unused.
-#[unsafe(no_mangle)]
-pub extern "C" fn duckhammock_decode(
+pub fn duckhammock_decode(
     format: &[u32; 5],
     attribute: u32,
     vertex: &[u8],
@@ -132,20 +123,14 @@ pub extern "C" fn duckhammock_decode(
 }
 
 // All attributes of a vertex: ten words each, the kind and nine values, zeros where unused.
-#[unsafe(no_mangle)]
-pub extern "C" fn duckhammock_decode_all(
-    format: &[u32; 5],
-    vertex: &[u8],
-    values: &mut [u32; 210],
-) -> u32
+pub fn duckhammock_decode_all(format: &[u32; 5], vertex: &[u8], values: &mut [u32; 210]) -> u32
     ensures { TellsAll (format_named format.now) vertex.now values.old result values.new }
 {
     formats::decode_all(format, vertex, values)
 }
 
 // The f32 components of an attribute as they stand: how many there are, and nine words, zeros where unused.
-#[unsafe(no_mangle)]
-pub extern "C" fn duckhammock_raw_words(
+pub fn duckhammock_raw_words(
     format: &[u32; 5],
     attribute: u32,
     vertex: &[u8],
@@ -158,8 +143,7 @@ pub extern "C" fn duckhammock_raw_words(
 }
 
 // Writes the command that five words name, an XF load with its lent words, and tells its bytes.
-#[unsafe(no_mangle)]
-pub extern "C" fn duckhammock_write_command(
+pub fn duckhammock_write_command(
     command: &[u32; 5],
     lent: &[u32],
     output: &mut [u8],
@@ -172,16 +156,14 @@ pub extern "C" fn duckhammock_write_command(
 }
 
 // Whether a patch is accepted.
-#[unsafe(no_mangle)]
-pub extern "C" fn duckhammock_check_patch(masks: &[u32], numbers: &[u32]) -> u32
+pub fn duckhammock_check_patch(masks: &[u32], numbers: &[u32]) -> u32
     ensures { result ≡ fault_of (patch_of masks.now numbers.now) }
 {
     patching::check(masks, numbers)
 }
 
 // Merges the patches A and B into the lent pair: the bits that either names, B's where both do.
-#[unsafe(no_mangle)]
-pub extern "C" fn duckhammock_merge_patches(
+pub fn duckhammock_merge_patches(
     a_masks: &[u32],
     a_numbers: &[u32],
     b_masks: &[u32],
@@ -197,8 +179,7 @@ pub extern "C" fn duckhammock_merge_patches(
 }
 
 // Writes a patch as commands, and tells its bytes.
-#[unsafe(no_mangle)]
-pub extern "C" fn duckhammock_write_patch(
+pub fn duckhammock_write_patch(
     masks: &[u32],
     numbers: &[u32],
     output: &mut [u8],
@@ -211,8 +192,7 @@ pub extern "C" fn duckhammock_write_patch(
 }
 
 // Reads a recording: the registers, with no draw open, the XF words, where the stream stands and how long it is.
-#[unsafe(no_mangle)]
-pub extern "C" fn duckhammock_read_recording(
+pub fn duckhammock_read_recording(
     state: &mut [u32; 327],
     file: &[u8],
     xf: &mut [u32],
@@ -225,8 +205,7 @@ pub extern "C" fn duckhammock_read_recording(
 }
 
 // Reads the first 18,016 bytes of a recording so, and tells how long its stream is.
-#[unsafe(no_mangle)]
-pub extern "C" fn duckhammock_read_recording_head(
+pub fn duckhammock_read_recording_head(
     state: &mut [u32; 327],
     head: &[u8],
     xf: &mut [u32],
@@ -239,24 +218,21 @@ pub extern "C" fn duckhammock_read_recording_head(
 }
 
 // Whether so many bytes behind the head of a recording are the stream that it tells.
-#[unsafe(no_mangle)]
-pub extern "C" fn duckhammock_check_recording_rest(length: u32, rest: usize) -> u32
+pub fn duckhammock_check_recording_rest(length: u32, rest: usize) -> u32
     ensures { result ≡ rest_fault length rest }
 {
     filing::check_rest(length, rest)
 }
 
 // The byte of the first fault of a recording's head, 18,016 where it has none.
-#[unsafe(no_mangle)]
-pub extern "C" fn duckhammock_find_recording_fault(head: &[u8]) -> u32
+pub fn duckhammock_find_recording_fault(head: &[u8]) -> u32
     ensures { result ≡ head_place stream_limit head.now }
 {
     filing::find_fault(head)
 }
 
 // Writes a recording of the state's registers, the XF words and a stream, and tells its bytes.
-#[unsafe(no_mangle)]
-pub extern "C" fn duckhammock_write_recording(
+pub fn duckhammock_write_recording(
     state: &[u32; 327],
     xf: &[u32],
     stream: &[u8],
@@ -270,8 +246,7 @@ pub extern "C" fn duckhammock_write_recording(
 }
 
 // Writes what stands in a recording before a stream of so many bytes, and tells its bytes.
-#[unsafe(no_mangle)]
-pub extern "C" fn duckhammock_write_recording_head(
+pub fn duckhammock_write_recording_head(
     state: &[u32; 327],
     xf: &[u32],
     length: usize,
