@@ -1,5 +1,5 @@
 //! Finds the proved library's archive: in the folder that DUCKHAMMOCK_LIB
-//! names, or where `rt staticlib duckhammock` writes it.
+//! names, or where `bin/library` writes it.
 
 use std::env;
 use std::path::{Path, PathBuf};
@@ -14,7 +14,7 @@ fn main() {
     println!("cargo:rerun-if-changed={}", archive.display());
     let Ok(archive) = archive.canonicalize() else {
         eprintln!(
-            "There is no {}: write it by `rt staticlib duckhammock` at the repository's root, \
+            "There is no {}: write it by `bin/library` at the repository's root, \
              or name its folder in DUCKHAMMOCK_LIB.",
             archive.display()
         );
