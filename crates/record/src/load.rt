@@ -1,26 +1,24 @@
-// A recording read: its head into registers and XF words, and its stream.
-use crate::input;
+// A recording read: its head into registers and XF words, its stream only counted.
+use crate::pass::{Again, Pass};
 use crate::verdict::Verdict;
+use crate::{input, pass};
 use recording::HEAD_LENGTH;
 use std::alloc::Global;
-use std::io::Read;
-
-// The stream of a recording that is in order; or how the program ends where it is not.
-#[derive(Drop)]
-pub enum Loaded {
-    Stream(Vec<u8>),
-    Not(Verdict),
-}
+use std::io::{Read, Seek};
 
 // Whether an input is a recording, which begins with 256, the count of its BP registers: no raw stream gets past its third byte with these.
-pub fn is_recording(bytes: &[u8]) -> bool {
-    bytes.starts_with(&[0, 0, 1, 0])
+// It is left where it stood.
+pub fn is_recording<I: Read + Seek>(again: &mut Again<I>) -> bool {
+    let mut first = [0u8; 4];
+    let is_read = again.input.read_exact(&mut first).is_ok();
+    pass::go_back(again);
+    is_read & (first[0] == 0) & (first[1] == 0) & (first[2] == 1) & (first[3] == 0)
 }
 
 // A head that is bad, at the byte of its first fault.
-fn refuse(number: u32, head: &[u8]) -> Loaded {
+fn refuse(number: u32, head: &[u8]) -> Verdict {
     let place = duckhammock::duckhammock_find_recording_fault(head);
-    Loaded::Not(Verdict::Bad { number, place })
+    Verdict::Bad { number, place }
 }
 
 // Where the bytes behind a head end, or ought to: what comes first.
@@ -31,47 +29,47 @@ fn rest_end(told: u32, rest: usize) -> u32 {
     (HEAD_LENGTH as u32).wrapping_add(told)
 }
 
-// Reads the bytes behind a head, which tells how many there are, and one more where there are more.
-fn load_rest(alloc: Global, input: &mut impl Read, told: u32) -> Loaded {
-    let rest = input::read(alloc, input, told as usize + 1);
+// The pass that counted the bytes behind a head, which tells how many there are, where they are in order; or how the program ends.
+pub fn load_rest(told: u32, rest: Pass) -> Result<Pass, Verdict> {
     if rest.is_failed {
-        return Loaded::Not(Verdict::Unreadable);
+        return Err(Verdict::Unreadable);
     }
-    let count = rest.bytes.len();
-    let number = duckhammock::duckhammock_check_recording_rest(told, count);
+    let number = duckhammock::duckhammock_check_recording_rest(told, rest.count);
     if number != 0 {
-        let place = rest_end(told, count);
-        return Loaded::Not(Verdict::Bad { number, place });
+        let place = rest_end(told, rest.count);
+        return Err(Verdict::Bad { number, place });
     }
-    Loaded::Stream(rest.bytes)
+    Ok(rest)
 }
 
-// Reads what stands before the stream of a recording, as far as it is there, and goes on behind it.
-fn load_head(
+// Reads what stands before the stream of a recording, as far as it is there: its registers and XF words, and how long its stream is, which
+// is returned; or how the program ends.
+pub fn load_head(
     alloc: Global,
     input: &mut impl Read,
     state: &mut [u32; 327],
     xf: &mut [u32; 4184],
-    head: &[u8],
-) -> Loaded {
-    let mut told: u32 = 0;
-    let number = duckhammock::duckhammock_read_recording_head(state, head, xf, &mut told);
-    if number != 0 {
-        return refuse(number, head);
+) -> Result<u32, Verdict> {
+    let head = input::read(alloc, input, HEAD_LENGTH);
+    if head.is_failed {
+        return Err(Verdict::Unreadable);
     }
-    load_rest(alloc, input, told)
+    let bytes = head.bytes.as_slice();
+    let mut told: u32 = 0;
+    let number = duckhammock::duckhammock_read_recording_head(state, bytes, xf, &mut told);
+    if number != 0 {
+        return Err(refuse(number, bytes));
+    }
+    Ok(told)
 }
 
-// Reads a recording from an input to its end: its registers and XF words, and its stream.
+// Reads a recording from an input to its end: its registers and XF words, and how long its stream is.
 pub fn load(
     alloc: Global,
     input: &mut impl Read,
     state: &mut [u32; 327],
     xf: &mut [u32; 4184],
-) -> Loaded {
-    let head = input::read(alloc, input, HEAD_LENGTH);
-    if head.is_failed {
-        return Loaded::Not(Verdict::Unreadable);
-    }
-    load_head(alloc, input, state, xf, head.bytes.as_slice())
+) -> Result<Pass, Verdict> {
+    let told = load_head(alloc, input, state, xf)?;
+    load_rest(told, pass::count(input, told as usize))
 }

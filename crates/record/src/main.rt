@@ -5,68 +5,93 @@
 //   registers   the same with the registers and XF words of the recording on descriptor 3
 //   stream      the stream of the recording on standard input
 //
-// A recording tells how long its stream is before it. So the stream is held in memory, with a byte more where it is too long. Nothing is
-// written before all that is read was found to be in order. How it ended is told by a line on standard error.
+// A stream may be longer than any buffer here, and a recording tells its length before it. So standard input is gone over twice, to count
+// and to copy, where it is a file; where it is not, as a pipe, its stream is held in memory, with a byte more where it is too long. Nothing
+// is written before all that is read was found to be in order. How it ended is told by a line on standard error.
 #![tactic(auto)]
 
 mod input;
 mod load;
+mod pass;
 mod verdict;
 
-use load::Loaded;
+use pass::{Again, Pass};
 use recording::HEAD_LENGTH;
+use std::io::{Read, Seek};
 use std::rt::{Env, Files};
 use verdict::Verdict;
 
-// Writes a head and a stream behind it.
-fn copy(rt: &impl Print, head: &[u8], stream: &[u8]) -> Verdict {
-    if rt.write_all(head).is_err() || rt.write_all(stream).is_err() {
-        return Verdict::Unwritable;
-    }
-    Verdict::Written
-}
-
-// Writes a recording: what stands before the stream, and the stream.
-fn write_recording(
+// Writes a recording: what stands before the stream, and the stream that was counted.
+fn write_recording<I: Read + Seek>(
     rt: &impl Print,
+    again: &mut Again<I>,
     state: &[u32; 327],
     xf: &[u32; 4184],
-    stream: &[u8],
+    stream: Pass,
 ) -> Verdict {
     let mut head = [0u8; HEAD_LENGTH];
     let mut written: u32 = 0;
     let number = duckhammock::duckhammock_write_recording_head(
         state,
         xf,
-        stream.len(),
+        stream.count,
         &mut head,
         &mut written,
     );
     if number != 0 {
         return Verdict::Refused(number);
     }
-    copy(rt, &head, stream)
+    pass::copy(rt, again, &head, stream)
 }
 
-// Records the raw stream on standard input with these registers.
-fn record(
+// Records the raw stream on standard input, which is a file, with these registers.
+fn record_file<I: Read + Seek>(
+    rt: &(impl Input + Print),
+    again: &mut Again<I>,
+    state: &[u32; 327],
+    xf: &[u32; 4184],
+) -> Verdict {
+    if load::is_recording(again) {
+        return Verdict::IsRecording;
+    }
+    let stream = pass::count(&mut rt.reader(), recording::STREAM_LIMIT as usize);
+    if stream.is_failed {
+        return Verdict::Unreadable;
+    }
+    write_recording(rt, again, state, xf, stream)
+}
+
+// The same where it is none: the stream is held in memory.
+fn record_held(
     rt: &(impl AllocGlobal + Input + Print),
     state: &[u32; 327],
     xf: &[u32; 4184],
 ) -> Verdict {
-    let mut stdin = rt.reader();
-    let stream = input::read(rt.alloc(), &mut stdin, recording::STREAM_LIMIT as usize + 1);
-    if load::is_recording(stream.bytes.as_slice()) {
+    let most = recording::STREAM_LIMIT as usize + 1;
+    let (mut again, stream) = input::hold(rt.alloc(), &mut rt.reader(), most);
+    if load::is_recording(&mut again) {
         return Verdict::IsRecording;
     }
     if stream.is_failed {
         return Verdict::Unreadable;
     }
-    write_recording(rt, state, xf, stream.bytes.as_slice())
+    write_recording(rt, &mut again, state, xf, stream)
+}
+
+// Records the raw stream on standard input with these registers.
+fn record(
+    rt: &(impl Files + AllocGlobal + Input + Print),
+    state: &[u32; 327],
+    xf: &[u32; 4184],
+) -> Verdict {
+    match input::open_stdin(rt) {
+        Some(mut again) => record_file(rt, &mut again, state, xf),
+        None => record_held(rt, state, xf),
+    }
 }
 
 // Records it with fresh registers.
-fn record_fresh(rt: &(impl AllocGlobal + Input + Print)) -> Verdict {
+fn record_fresh(rt: &(impl Files + AllocGlobal + Input + Print)) -> Verdict {
     let mut state = [0u32; 327];
     let xf = [0u32; 4184];
     duckhammock::duckhammock_fresh(&mut state);
@@ -78,10 +103,10 @@ fn load_other(
     rt: &(impl Files + AllocGlobal),
     state: &mut [u32; 327],
     xf: &mut [u32; 4184],
-) -> Loaded {
+) -> Result<Pass, Verdict> {
     match input::open_other(rt) {
         Some(mut other) => load::load(rt.alloc(), &mut other, state, xf),
-        None => Loaded::Not(Verdict::Unreadable),
+        None => Err(Verdict::Unreadable),
     }
 }
 
@@ -91,19 +116,41 @@ fn record_by_other(rt: &(impl Files + AllocGlobal + Input + Print)) -> Verdict {
     let mut xf = [0u32; 4184];
     duckhammock::duckhammock_fresh(&mut state);
     match load_other(rt, &mut state, &mut xf) {
-        Loaded::Stream(_) => record(rt, &state, &xf),
-        Loaded::Not(verdict) => verdict,
+        Ok(_) => record(rt, &state, &xf),
+        Err(verdict) => verdict,
     }
 }
 
+// Writes the bytes behind the head of a recording, which were counted, where they are as many as it tells.
+fn write_rest<I: Read + Seek>(
+    rt: &impl Print,
+    again: &mut Again<I>,
+    told: u32,
+    rest: Pass,
+) -> Verdict {
+    match load::load_rest(told, rest) {
+        Ok(stream) => pass::copy(rt, again, &[], stream),
+        Err(verdict) => verdict,
+    }
+}
+
+// Writes what is left of standard input behind the head of a recording, where it is as much as the head tells.
+fn write_behind_head(rt: &(impl Files + AllocGlobal + Input + Print), told: u32) -> Verdict {
+    if let Some(mut again) = input::open_stdin(rt) {
+        let rest = pass::count(&mut rt.reader(), told as usize);
+        return write_rest(rt, &mut again, told, rest);
+    }
+    let (mut again, rest) = input::hold(rt.alloc(), &mut rt.reader(), told as usize + 1);
+    write_rest(rt, &mut again, told, rest)
+}
+
 // Writes the stream of the recording on standard input.
-fn write_stream(rt: &(impl AllocGlobal + Input + Print)) -> Verdict {
+fn write_stream(rt: &(impl Files + AllocGlobal + Input + Print)) -> Verdict {
     let mut state = [0u32; 327];
     let mut xf = [0u32; 4184];
-    let mut stdin = rt.reader();
-    match load::load(rt.alloc(), &mut stdin, &mut state, &mut xf) {
-        Loaded::Stream(stream) => copy(rt, &[], stream.as_slice()),
-        Loaded::Not(verdict) => verdict,
+    match load::load_head(rt.alloc(), &mut rt.reader(), &mut state, &mut xf) {
+        Ok(told) => write_behind_head(rt, told),
+        Err(verdict) => verdict,
     }
 }
 

@@ -1,12 +1,15 @@
 // How the program ended: the last line on standard error, by which its caller goes.
 
-// All was written, or the output took no more; a read failed; what was to be recorded is a recording; the argument has no meaning; the
-// recording to write was refused; one that was read is bad, at this byte.
+// All was written, or the output took no more; a read failed; standard input was not as long the second time as the first, or cannot be
+// read twice; what was to be recorded is a recording; the argument has no meaning; the recording to write was refused; one that was read
+// is bad, at this byte.
 #[derive(Clone, Copy)]
 pub enum Verdict {
     Written,
     Unwritable,
     Unreadable,
+    Changed,
+    ReadOnce,
     IsRecording,
     Unknown,
     Refused(u32),
@@ -51,6 +54,8 @@ pub fn tell(rt: &impl Eprint, verdict: Verdict) {
         Verdict::Written => say(rt, "written"),
         Verdict::Unwritable => say(rt, "the output cannot be written"),
         Verdict::Unreadable => say(rt, "the input cannot be read"),
+        Verdict::Changed => say(rt, "the input changed while it was read"),
+        Verdict::ReadOnce => say(rt, "the input cannot be read twice"),
         Verdict::IsRecording => say(rt, "the input is a recording"),
         Verdict::Unknown => say(rt, "there is no such argument"),
         Verdict::Refused(number) => say_refusal(rt, number),
