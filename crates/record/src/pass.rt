@@ -1,18 +1,18 @@
 // Passes over an input from where it stands, in pieces: its bytes are counted, or copied to standard output.
 use crate::verdict::Verdict;
 use std::io;
-use std::io::{Read, Seek, SeekFrom, Write};
+use std::io::{ErrorKind, Read, Seek, SeekFrom, Write};
 
 // How long a piece is at most.
 const PIECE_LENGTH: usize = 4096;
 
-// The bytes met so far; whether it goes on; whether a read failed, and whether the output takes no more.
+// The bytes met so far; whether it goes on; whether a read failed, and why the output takes no more.
 #[derive(Clone, Copy)]
 pub struct Pass {
     pub count: usize,
     goes_on: bool,
     pub is_failed: bool,
-    is_closed: bool,
+    closed: Option<Verdict>,
 }
 
 // An input for the second pass, and where the first began in it; none where it has no places to go back to.
@@ -52,7 +52,16 @@ pub fn of_held(count: usize, is_failed: bool) -> Pass {
         count,
         goes_on: false,
         is_failed,
-        is_closed: false,
+        closed: None,
+    }
+}
+
+// Why an output takes no more: its reader has closed it, or it cannot be written.
+fn unwritten(error: &io::Error) -> Verdict {
+    if error.kind() == ErrorKind::BrokenPipe {
+        Verdict::Closed
+    } else {
+        Verdict::Unwritable
     }
 }
 
@@ -64,12 +73,15 @@ fn take_piece(input: &mut impl Read, output: &mut impl Write, pass: Pass) -> Pas
         Ok(n) => (n, false),
         Err(_) => (0, true),
     };
-    let is_closed = output.write_all(&piece[..n]).is_err();
+    let closed = match output.write_all(&piece[..n]) {
+        Ok(()) => None,
+        Err(error) => Some(unwritten(&error)),
+    };
     Pass {
         count: pass.count.wrapping_add(n),
-        goes_on: (n > 0) & !is_closed,
+        goes_on: (n > 0) & closed.is_none(),
         is_failed,
-        is_closed,
+        closed,
     }
 }
 
@@ -80,7 +92,7 @@ fn go_over(input: &mut impl Read, output: &mut impl Write, most: usize) -> Pass 
         count: 0,
         goes_on: true,
         is_failed: false,
-        is_closed: false,
+        closed: None,
     };
     for _ in 0..u64::MAX {
         if !pass.goes_on || pass.count > most {
@@ -98,8 +110,8 @@ pub fn count(input: &mut impl Read, most: usize) -> Pass {
 
 // How a copy ended of what was counted before.
 fn judge(first: Pass, second: Pass) -> Verdict {
-    if second.is_closed {
-        return Verdict::Unwritable;
+    if let Some(verdict) = second.closed {
+        return verdict;
     }
     if second.is_failed {
         return Verdict::Unreadable;
@@ -122,8 +134,8 @@ pub fn copy<I: Read + Seek>(
         return Verdict::ReadOnce;
     }
     let mut output = io::writer(rt);
-    if output.write_all(head).is_err() {
-        return Verdict::Unwritable;
+    if let Err(error) = output.write_all(head) {
+        return unwritten(&error);
     }
     judge(first, go_over(&mut again.input, &mut output, first.count))
 }

@@ -1,12 +1,13 @@
 // How the program ended: the last line on standard error, by which its caller goes.
 
-// All was written, or the output took no more; a read failed; standard input was not as long the second time as the first, or cannot be
+// All was written, or the output took no more, or its reader closed it; a read failed; standard input was not as long the second time as the first, or cannot be
 // read twice; what was to be recorded is a recording; the argument has no meaning; the recording to write was refused; one that was read
 // is bad, at this byte.
 #[derive(Clone, Copy)]
 pub enum Verdict {
     Written,
     Unwritable,
+    Closed,
     Unreadable,
     Changed,
     ReadOnce,
@@ -53,6 +54,7 @@ pub fn tell(rt: &impl Eprint, verdict: Verdict) {
     match verdict {
         Verdict::Written => say(rt, "written"),
         Verdict::Unwritable => say(rt, "the output cannot be written"),
+        Verdict::Closed => say(rt, "the output is closed"),
         Verdict::Unreadable => say(rt, "the input cannot be read"),
         Verdict::Changed => say(rt, "the input changed while it was read"),
         Verdict::ReadOnce => say(rt, "the input cannot be read twice"),
