@@ -93,7 +93,8 @@ pub fn run(
     let units = ran.units;
     let told = [units, answers::stop_lacking(stop)];
     *report = told;
-    if units == 0 {
+    let is_idle = units == 0;
+    if is_idle {
         return answers::stop_number(stop);
     }
     let last = ran.fifo;

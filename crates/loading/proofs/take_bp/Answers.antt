@@ -12,12 +12,6 @@ returns-then-bytes-from c = record { any = λ _ _ _. moves_none }
 pub loop-units-init : goal.loop-units-init
 loop-units-init c = (refl, ((omega arith, c.if-bytes-from.false), (omega arith, record { any = λ _ _ _. moves_none })))
 
-pub returns-then-bytes-at-lt5 : goal.returns-then-bytes-at-lt5
-returns-then-bytes-at-lt5 c = c.loop-units.invariant.1.1.1
-
-pub returns-then-bytes-at-ne-BP : goal.returns-then-bytes-at-ne-BP
-returns-then-bytes-at-ne-BP c = c.loop-units.invariant.1.1.1
-
 pub loop-units-preserved : goal.loop-units-preserved
 loop-units-preserved c =
     let w = c.word-word in
@@ -31,7 +25,7 @@ loop-units-preserved c =
             any = λ cp xf buffer.
                 moves_next (l.invariant.1.1.1.any cp xf buffer) c.loop-units-test.true (omega arith)
                 (one_bp _ (λ k. (c.shared_slice_known-1.given k).fits)
-                l.at c.if-bytes-at-lt5.false c.if-bytes-at-ne-BP.false
+                l.at c.if-bytes-at-lt5.false (omega arith)
                 w.result w.ensures c.load_bp.ensures cp xf buffer);
           },
         ),

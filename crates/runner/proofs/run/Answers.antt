@@ -19,14 +19,14 @@ returns-then-limit-eq0 c =
     let s = handed a.state.now a.xf.now a.vertex.now h refl refl in
     rw (← s) (run_zero a.ring.now a.limit _ a.state.now c.if-limit-eq0.true c.gate_number.ensures)
 
-pub returns-then-units-eq0 : goal.returns-then-units-eq0
-returns-then-units-eq0 c =
+pub returns-then-is_idle : goal.returns-then-is_idle
+returns-then-is_idle c =
     let a = c.args in
     let h = sym c.in-Held.is ∙ c.read_front-front.ensures in
     let s = handed a.state.now a.xf.now a.vertex.now h c.cp-cp.ensures refl in
     rw (← s)
     (run_none a.ring.now a.limit _ a.state.now _ c.run_words-ran.ensures.0 c.stop_number.ensures
-    c.stop_lacking.ensures refl refl c.run_words-ran.ensures.1 c.if-units-eq0.true)
+    c.stop_lacking.ensures refl refl c.run_words-ran.ensures.1 c.if-is_idle.true)
 
 pub returns : goal.returns
 returns c =
@@ -36,4 +36,4 @@ returns c =
     rw (← s)
     (run_some a.ring.now a.limit _ a.state.now _ c.run_words-ran.ensures.0 c.stop_number-2.ensures
     c.stop_lacking.ensures refl
-    c.if-units-eq0.false c.save_before_bp.ensures)
+    c.if-is_idle.false c.save_before_bp.ensures)
