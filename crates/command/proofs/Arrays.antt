@@ -1,6 +1,6 @@
 -- The twelve attributes that can be indexed, 9 to 20 of a vertex, have the arrays 0 to 11, and the four indexed loads 12 to 15.
 use mathlib.Core.Path.{◌≡◌, refl}
-use Prim.Native.Nat.{ℕ, ◌+◌, ◌-◌, ◌<◌}
+use Prim.Native.Nat.{ℕ, ◌+◌, ◌<◌}
 use native.Mathlib.Omega.{arith}
 use Rattle.places.specs.Places.{attribute, indexed_load, array_of}
 

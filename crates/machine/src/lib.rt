@@ -14,7 +14,7 @@ use refusal::Reason;
 pub use tests::{pass, registers_fit};
 
 // What ports share: the 60 CP registers, the 256 BP registers, and the open draw. A look, a taking and a run are lent the registers.
-#[derive(Drop)]
+#[derive(Clone, Copy)]
 pub struct Registers {
     pub cp: [u32; 60],
     pub bp: [u32; 256],
@@ -22,7 +22,7 @@ pub struct Registers {
 }
 
 // The fresh state: the fifo's beside the registers'.
-#[derive(Drop)]
+#[derive(Clone, Copy)]
 pub struct Machine {
     pub fifo: Fifo,
     pub registers: Registers,

@@ -22,7 +22,7 @@ pub enum HeadAnswer {
 }
 
 // The registers of a head; beside a refusal fresh ones.
-#[derive(Drop)]
+#[derive(Clone, Copy)]
 pub struct HeadRead {
     pub registers: Registers,
     pub answer: HeadAnswer,
@@ -36,7 +36,7 @@ pub enum ReadAnswer {
 }
 
 // The registers of a file; beside a refusal fresh ones.
-#[derive(Drop)]
+#[derive(Clone, Copy)]
 pub struct FileRead {
     pub registers: Registers,
     pub answer: ReadAnswer,

@@ -4,9 +4,8 @@ use mathlib.Core.List.{List, [], ◌∷◌, ◌++◌, append_assoc}
 use Prim.Native.Nat.{ℕ, ◌+◌, ◌-◌, ◌*◌, ◌≤◌}
 use native.Mathlib.Omega.{arith}
 use lib.ListN.{length, take, drop, length-append, length-drop}
-use lib.Seq.{take_at, drop_at, drop-drop, length-take-le, take-length}
+use lib.Seq.{take_at, drop_at, drop-drop, length-take-le}
 use borrow.Rule.Slice.PartMut.{put_mid}
-use Rattle.laws.proofs.Pieces.{lent_rest}
 use Rattle.octets.specs.BigEndian.{bytes_of, word_bytes, with_words}
 use Rattle.octets.proofs.Written.{length_bytes}
 use Rattle.octets.proofs.Words.{words_one, words_lent}

@@ -1,6 +1,6 @@
 -- Written and looked at: any command that the writer accepts comes back, a draw head unless 9 or 10.
 use mathlib.Core.Path.{◌≡◌, refl, sym, ap, ◌∙◌}
-use mathlib.Core.Bool.{false≢true, true, false, ◌&&◌}
+use mathlib.Core.Bool.{false≢true, false, ◌&&◌}
 use mathlib.Core.List.{List, ◌∷◌, ◌++◌}
 use Prim.Native.Nat.{ℕ, suc, ◌+◌, ◌*◌, ◌^◌, ◌≤◌}
 use native.Mathlib.Omega.{arith}

@@ -5,7 +5,6 @@ use Rattle.command.proofs.Opcodes.{Other, at_opcode, at_indexed, at_head, at_low
 use Rattle.command.specs.Look.{look_of, by_opcode}
 use Rattle.looking.proofs.look_command.Goals as goal
 
--- the opcode is none of the single keys
 pub returns-then-count-eq0 : goal.returns-then-count-eq0
 unfolding look_of
 returns-then-count-eq0 c = rw c.if-count-eq0.true

@@ -10,7 +10,6 @@ use Rattle.fields.proofs.Modes.{beyond}
 use Rattle.layout.proofs.Sums.{Sums, sums}
 use Rattle.layout.proofs.measuring.before.Goals as goal
 
--- all sums, after the matrices
 -- at a number that is known
 at_key : (d : Descriptor) {k n : ℕ} → k ≡ n → offset_of d n ≡ offset_of d k
 at_key d e = ap (λ (x : ℕ). offset_of d x) (sym e)

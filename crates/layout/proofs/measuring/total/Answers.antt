@@ -11,7 +11,6 @@ use Rattle.layout.proofs.Present.{matrices_are}
 use Rattle.layout.proofs.Sums.{Sums, sums}
 use Rattle.layout.proofs.measuring.total.Goals as goal
 
--- all sums, after the matrices
 -- no matrix where its bits are clear
 none-set : (d : Descriptor) → d.vcd0 % 512 ≡ 0 → offset_of d 9 ≡ 0
 unfolding ones

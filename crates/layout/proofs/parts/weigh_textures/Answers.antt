@@ -4,7 +4,6 @@ use Rattle.layout.proofs.Present.{textures_absent}
 use Rattle.layout.proofs.Weighed.{textures_of}
 use Rattle.layout.proofs.parts.weigh_textures.Goals as goal
 
--- the descriptor of the five words
 pub absent_textures-requires : goal.absent_textures-requires
 absent_textures-requires c =
     (c.requires, textures_absent (asked c.args.vcd0 c.args.vcd1 c.args.vat0 c.args.vat1 c.args.vat2) c.if-vcd1-eq0.true)
