@@ -21,6 +21,8 @@ LISTED = re.compile(rf"(?m)^ *\| ({NAME}) :|^ +(?:pub )?({NAME}) :")
 LIBRARY = re.compile(r"(?m)^ *(?:pub |ghost )*use (?!Rattle\.)[^\s;{]+\.\{([^}]*)\}")
 QUIET_ANTT = re.compile(r"--[^\n]*")
 QUIET_RT = re.compile(r'//[^\n]*|b?"(?:\\.|[^"\\])*"')
+# What is written of the proof of one function, whose names are the goals'.
+OF_A_FUNCTION = re.compile(r"/proofs/.+/(Proof|Answers|Invariants)\.antt$")
 SPAN = re.compile(r"`[^`\n]+`")
 # Lemmas that would have the name of a word of the library, or of a variable beside them.
 TAKEN = set("bit-and bit-or bit-xor nan-bits up-to".split())
@@ -72,7 +74,7 @@ def quietly(text, quiet, code, names):
 
 def main():
     antt = paths("crates/*/specs/**/*.antt", "crates/*/proofs/**/*.antt")
-    laws = [p for p in antt if os.path.basename(p) != "Proof.antt"]
+    laws = [p for p in antt if not OF_A_FUNCTION.search(p)]
     declared = set()
     for p in laws:
         text = QUIET_ANTT.sub("", read(p))
