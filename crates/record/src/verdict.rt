@@ -1,8 +1,8 @@
 // How the program ended: the last line on standard error, by which its caller goes.
 
-// All was written, or the output took no more, or its reader closed it; a read failed; standard input was not as long the second time as the first, or cannot be
-// read twice; what was to be recorded is a recording; the argument has no meaning; the recording to write was refused; one that was read
-// is bad, at this byte.
+// All was written, or the output took no more, or its reader closed it; a read failed; standard input was not as long the second time as
+// the first, or cannot be read twice; what was to be recorded is a recording; the argument has no meaning; the recording to write was
+// refused; one that was read is bad, at this byte.
 #[derive(Clone, Copy)]
 pub enum Verdict {
     Written,
