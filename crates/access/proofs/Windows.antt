@@ -8,22 +8,19 @@ use native.Mathlib.Omega.{arith}
 use lib.Dec.{eqb, leb, ltb}
 use lib.ListN.{length, get_or}
 use borrow.Author.Tests.{eqb-true, eqb-false, leb-true, le-ltb, not-true}
-use Rattle.laws.proofs.Cases.{and_left, and_right, tested}
-use Rattle.laws.proofs.Tests.{or_cases}
+use Rattle.std.proofs.lemmas.Bool.{and_parts, cases_Bool, or_cases}
+use Rattle.std.specs.Prelude.{Result, Ok, Err}
 use Rattle.refusal.specs.Number.{number}
 use Rattle.refusal.specs.declared.Reason.{Reason}
 use Rattle.refusal.proofs.Positive.{not_zero}
 use Rattle.command.specs.declared.Draw.TheVariants.{Closed, Open}
 use Rattle.fifo.specs.declared.Window.{Window}
 use Rattle.fifo.specs.declared.Fifo.{Fifo}
-use Rattle.fifo.specs.declared.Changed.{Changed}
-use Rattle.fifo.specs.declared.Reading.{Reading}
-use Rattle.fifo.specs.declared.Reading.TheVariants as reading
-use Rattle.fifo.specs.declared.Answer.TheVariants as answer
 use Rattle.fifo.specs.Answers.{meaning_of, meaning_of_reading, ChangedBy}
 use Rattle.queue.specs.Feeding.{feed_refusal, accepted, fifo_after, ring_after, FedBy}
 use Rattle.fifo.specs.Window.{ready_by, accept, with_window, with_control, with_write}
-use Rattle.registers.specs.Registers.{listed, computed, readable, writable, value_of, read_answer, with_register, stored, written, write_answer}
+use Rattle.registers.specs.Registers.{listed, computed, readable, writable, value_of, read_answer}
+use Rattle.registers.specs.Registers.{with_register, stored, written, write_answer}
 use Rattle.machine.specs.State.{drawing_of}
 use Rattle.words.specs.State.{window_of, fifo_of, draw_of, left_of, fifo_stored}
 use Rattle.encoding.specs.Told.{first_of, second_of}
@@ -31,7 +28,7 @@ use Rattle.access.specs.Calls.{reading_of, ReadsRegister, WritesRegister, Feeds}
 use Rattle.encoding.proofs.Refusals.{stays, stays_number}
 
 -- the fifo that the code hands on: the window with no control word
-abbrev bare : Window → Fifo
+abbrev pub bare : Window → Fifo
 bare w = record { window = w; control = 0 }
 
 -- of the listed offsets below 20 hex that are not 0 or 4, there is only 2
@@ -39,11 +36,11 @@ only_control : (o : ℕ) → listed o ≡ true → (o ≡ 0 → ⊥) → (o ≡ 
 unfolding listed
 only_control o e z f t =
     let rest = leb o 4 || leb 0x20 o && leb o 0x3A in
-    let even : o % 2 ≡ 0 = eqb-true _ _ (and_left (eqb (o % 2) 0) rest e) in
+    let even : o % 2 ≡ 0 = eqb-true _ _ (and_parts (eqb (o % 2) 0) rest e).0 in
     ⊎_elim
     (λ h. let k = leb-true o 4 h in absurd (omega arith))
-    (λ h. leb-true 0x20 o (and_left (leb 0x20 o) (leb o 0x3A) h))
-    (or_cases (leb o 4) (leb 0x20 o && leb o 0x3A) (and_right (eqb (o % 2) 0) rest e))
+    (λ h. leb-true 0x20 o (and_parts (leb 0x20 o) (leb o 0x3A) h).0)
+    (or_cases (leb o 4) (leb 0x20 o && leb o 0x3A) (and_parts (eqb (o % 2) 0) rest e).1)
 
 -- ---- reading
 
@@ -63,10 +60,10 @@ module _ (w : Window) (control : ℕ) (drawing : Bool) (o : ℕ) (other : o ≡ 
       ⊎_elim
       (λ h. rw h)
       (λ h.
-      let k = eqb-false o 4 (not-true (eqb o 4) (and_right (listed o) (not (eqb o 4)) e)) in
-      let n = only_control o (and_left (listed o) (not (eqb o 4)) e) (eqb-false o 0 h) k other in
+      let k = eqb-false o 4 (not-true (eqb o 4) (and_parts (listed o) (not (eqb o 4)) e).1) in
+      let n = only_control o (and_parts (listed o) (not (eqb o 4)) e).0 (eqb-false o 0 h) k other in
       rw (h, le-ltb o 0x20 n))
-      (tested (eqb o 0))
+      (cases_Bool (eqb o 0))
 
   same_reading : read_answer (bare w) drawing o ≡ read_answer (record { window = w; control = control }) drawing o
   unfolding read_answer
@@ -74,30 +71,30 @@ module _ (w : Window) (control : ℕ) (drawing : Bool) (o : ℕ) (other : o ≡ 
       ⊎_elim
       (λ h. rw (h, same_value h))
       (λ h. rw h)
-      (tested (readable o))
+      (cases_Bool (readable o))
 
 module _ (l : List ℕ) {offset : ℕ} (value : ℕ) where
   pub reads_control : offset ≡ 2 → ReadsRegister l offset value 0 (get_or l 6 0)
   unfolding read_answer readable listed computed value_of fifo_of
   reads_control e = rw e (record { answer_is = refl; value_is = refl })
 
-  module _ {w : Window} (a : Reading) (other : offset ≡ 2 → ⊥) (of-window : w ≡ window_of l)
-      (h : meaning_of_reading a ≡ read_answer (bare w) (not (eqb (get_or l 7 0) 0)) offset) where
+  module _ (a : Result ℕ Reason) {f : Fifo} (other : offset ≡ 2 → ⊥) (of-bare : f ≡ bare (window_of l))
+      (h : meaning_of_reading a ≡ read_answer f (not (eqb (get_or l 7 0) 0)) offset) where
     read_by : meaning_of_reading a ≡ reading_of l offset
     unfolding fifo_of
     read_by =
-        h ∙ ap (λ (x : Window). read_answer (bare x) (not (eqb (get_or l 7 0) 0)) offset) of-window
+        h ∙ ap (λ (x : Fifo). read_answer x (not (eqb (get_or l 7 0) 0)) offset) of-bare
         ∙ same_reading (window_of l) (get_or l 6 0) (not (eqb (get_or l 7 0) 0)) offset other
         ∙ ap (λ (t : Bool). read_answer (fifo_of l) t offset) (drawing_is l)
 
-    pub reads_refused : (reason : Reason) {r : ℕ} → a ≡ reading.Refused reason → r ≡ number reason → ReadsRegister l offset value r value
+    pub reads_refused : (reason : Reason) {r : ℕ} → a ≡ Err reason → r ≡ number reason → ReadsRegister l offset value r value
     reads_refused reason t e =
         record {
           answer_is = e ∙ ap first_of (ap meaning_of_reading (sym t) ∙ read_by);
           value_is = stays_number reason e _ value;
         }
 
-    pub reads_done : (v : ℕ) → a ≡ reading.Value v → ReadsRegister l offset value 0 v
+    pub reads_done : (v : ℕ) → a ≡ Ok v → ReadsRegister l offset value 0 v
     reads_done v t =
         let m = ap meaning_of_reading (sym t) ∙ read_by in
         record { answer_is = ap first_of m; value_is = ap second_of m }
@@ -110,16 +107,16 @@ accepted_by o e =
     ⊎_elim
     (λ h. h)
     (λ h. let q : 0 ∷ [] ≡ 17 ∷ [] = rw h at e in absurd (let z : ◌≡◌ {A = ℕ} 0 17 = cc in omega (arith, z)))
-    (tested (writable o))
+    (cases_Bool (writable o))
 
 -- a register other than control leaves the control word, and goes by the window alone
 module _ (w : Window) (control o v : ℕ) (other : o ≡ 2 → ⊥) (e : writable o ≡ true) where
   past : (o ≡ 4 → ⊥) → ltb o 0x20 ≡ false
   unfolding writable computed
   past f =
-      let n = not-true (computed o) (and_right (listed o) (not (computed o)) e) in
+      let n = not-true (computed o) (and_parts (listed o) (not (computed o)) e).1 in
       let z : o ≡ 0 → ⊥ = λ h. false≢true (sym n ∙ rw h) in
-      le-ltb o 0x20 (only_control o (and_left (listed o) (not (computed o)) e) z f other)
+      le-ltb o 0x20 (only_control o (and_parts (listed o) (not (computed o)) e).0 z f other)
 
   by_place : (s t : Bool) (a b : Fifo) (r : Window) → (s ≡ false → t ≡ false)
       → with_window (record { window = w; control = control }) (cond s (bare w) (cond t a (with_window (bare w) r))).window
@@ -133,31 +130,24 @@ module _ (w : Window) (control o v : ℕ) (other : o ≡ 2 → ⊥) (e : writabl
   unfolding written stored
   same_window = rw e (by_place (eqb o 4) (ltb o 0x20) _ _ (with_register w o v) (λ h. past (eqb-false o 4 h)))
 
-module _ (l : List ℕ) {offset : ℕ} (value : ℕ) {w : Window} {c : Changed} (of-window : w ≡ window_of l)
-    (h : ChangedBy c (write_answer offset) (written (bare w) offset value)) where
-  pub writes_refused : (reason : Reason) {r : ℕ} → c.answer ≡ answer.Refused reason → r ≡ number reason → WritesRegister l offset value r l
-  writes_refused reason t e =
-      record {
-        answer_is = e ∙ ap first_of (ap meaning_of (sym t) ∙ h.answer_is);
-        state_is = stays reason e _ l;
-      }
-
+module _ (l : List ℕ) {offset : ℕ} (value : ℕ) {f : Fifo} {c : Result (Unit {0}) Reason} {left : Fifo} (of-bare : f ≡ bare (window_of l))
+    (h : ChangedBy c left (write_answer offset) (written f offset value)) where
   -- the window that is stored
   window_is : (offset ≡ 2 → ⊥) → 0 ∷ [] ≡ write_answer offset
-      → with_window (fifo_of l) c.fifo.window ≡ written (fifo_of l) offset value
+      → with_window (fifo_of l) left.window ≡ written (fifo_of l) offset value
   unfolding fifo_of
   window_is other a =
-      ap (λ (f : Fifo). with_window (fifo_of l) f.window) (h.fifo_is ∙ ap (λ (x : Window). written (bare x) offset value) of-window)
+      ap (λ (f : Fifo). with_window (fifo_of l) f.window) (h.fifo_is ∙ ap (λ (x : Fifo). written x offset value) of-bare)
       ∙ same_window (window_of l) (get_or l 6 0) offset value other (accepted_by offset a)
 
   -- the control word that is stored
-  control_is : offset ≡ 2 → with_control (fifo_of l) c.fifo.control ≡ written (fifo_of l) offset value
+  control_is : offset ≡ 2 → with_control (fifo_of l) left.control ≡ written (fifo_of l) offset value
   unfolding written stored writable listed computed
   control_is e =
-      let f : c.fifo.control ≡ value % 64 = ap (λ (x : Fifo). x.control) (rw e at h.fifo_is) in
+      let f : left.control ≡ value % 64 = ap (λ (x : Fifo). x.control) (rw e at h.fifo_is) in
       rw e (ap (λ (n : ℕ). with_control (fifo_of l) n) f)
 
-  pub writes_control : {l' : List ℕ} → l' ≡ fifo_stored l (with_control (fifo_of l) c.fifo.control) → c.answer ≡ answer.Accepted
+  pub writes_control : {l' : List ℕ} → l' ≡ fifo_stored l (with_control (fifo_of l) left.control) → {u : Unit {0}} → c ≡ Ok u
       → offset ≡ 2 → WritesRegister l offset value 0 l'
   writes_control saved t e =
       record {
@@ -165,7 +155,7 @@ module _ (l : List ℕ) {offset : ℕ} (value : ℕ) {w : Window} {c : Changed} 
         state_is = saved ∙ ap (fifo_stored l) (control_is e);
       }
 
-  pub writes_window : {l' : List ℕ} → l' ≡ fifo_stored l (with_window (fifo_of l) c.fifo.window) → c.answer ≡ answer.Accepted
+  pub writes_window : {l' : List ℕ} → l' ≡ fifo_stored l (with_window (fifo_of l) left.window) → {u : Unit {0}} → c ≡ Ok u
       → (offset ≡ 2 → ⊥) → WritesRegister l offset value 0 l'
   writes_window saved t other =
       let a = ap meaning_of (sym t) ∙ h.answer_is in
@@ -176,12 +166,12 @@ module _ (l : List ℕ) {offset : ℕ} (value : ℕ) {w : Window} {c : Changed} 
 
 -- ---- feeding: the control word is not used
 
-module _ (l : List ℕ) {ring bytes ring' : List ℕ} {w : Window} {c : Changed} (of-window : w ≡ window_of l)
-    (h : FedBy (bare w) ring bytes c ring') where
-  fed_by : FedBy (bare (window_of l)) ring bytes c ring'
-  fed_by = subst (λ (x : Window). FedBy (bare x) ring bytes c ring') of-window h
+module _ (l : List ℕ) {ring bytes ring' : List ℕ} {f : Fifo} {c : Result (Unit {0}) Reason} {left : Fifo}
+    (of-bare : f ≡ bare (window_of l)) (h : FedBy f ring bytes c left ring') where
+  fed_by : FedBy (bare (window_of l)) ring bytes c left ring'
+  fed_by = subst (λ (x : Fifo). FedBy x ring bytes c left ring') of-bare h
 
-  answer_by : meaning_of c.answer ≡ feed_refusal (fifo_of l) (length ring) (length bytes) ∷ []
+  answer_by : meaning_of c ≡ feed_refusal (fifo_of l) (length ring) (length bytes) ∷ []
   unfolding feed_refusal ready_by fifo_of
   answer_by = fed_by.answer_is
 
@@ -189,7 +179,7 @@ module _ (l : List ℕ) {ring bytes ring' : List ℕ} {w : Window} {c : Changed}
   unfolding ring_after accepted feed_refusal ready_by fifo_of
   ring_by = fed_by.ring_is
 
-  pub feeds_refused : (reason : Reason) {r : ℕ} → c.answer ≡ answer.Refused reason → r ≡ number reason → Feeds l ring bytes r l ring'
+  pub feeds_refused : (reason : Reason) {r : ℕ} → c ≡ Err reason → r ≡ number reason → Feeds l ring bytes r l ring'
   unfolding ring_after accepted
   feeds_refused reason t e =
       let q = e ∙ ap first_of (ap meaning_of (sym t) ∙ answer_by) in
@@ -203,8 +193,8 @@ module _ (l : List ℕ) {ring bytes ring' : List ℕ} {w : Window} {c : Changed}
   unfolding fifo_after accepted
   after_is f q = rw (← q)
 
-  pub feeds_done : {l' : List ℕ} → l' ≡ fifo_stored l (with_window (fifo_of l) (with_write (window_of l) c.fifo.window.write))
-      → c.answer ≡ answer.Accepted → Feeds l ring bytes 0 l' ring'
+  pub feeds_done : {l' : List ℕ} → l' ≡ fifo_stored l (with_window (fifo_of l) (with_write (window_of l) left.window.write))
+      → {u : Unit {0}} → c ≡ Ok u → Feeds l ring bytes 0 l' ring'
   unfolding accept fifo_of
   feeds_done saved t =
       let q = ap first_of (ap meaning_of (sym t) ∙ answer_by) in

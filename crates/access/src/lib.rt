@@ -1,11 +1,13 @@
-// The state's words and the ring: the fresh state, the hardware registers and feeding.
+// The state's words and the ring: the fresh state, the hardware registers and feeding. Answers are the C interface's numbers, 0 or the
+// refusal's.
 #![tactic(auto)]
 
 ghost use Rattle.std.specs.Prelude.{◌≡◌};
-ghost use Rattle.words.specs.State.{fresh_words};
+ghost use Rattle.words.specs.State.{window_of, fresh_words};
 ghost use Rattle.access.specs.Calls.{ReadsRegister, WritesRegister, Feeds};
 
-use fifo::{Answer, Fifo, Reading};
+use fifo::Fifo;
+use machine::Machine;
 
 // The hardware offset of the control register, whose state word may be wider than the register.
 const CONTROL: u16 = 0x002;
@@ -14,13 +16,18 @@ const CONTROL: u16 = 0x002;
 pub fn fresh(state: &mut [u32; 327])
     ensures { state.new ≡ fresh_words }
 {
-    let machine = machine::fresh();
-    let fifo = machine.fifo;
-    let registers = machine.registers;
-    let cp = registers.cp;
-    let bp = registers.bp;
-    let draw = registers.draw;
-    saving::save(state, fifo, &cp, &bp, draw);
+    let Machine { fifo, registers } = machine::fresh();
+    saving::save(state, fifo, &registers.cp, &registers.bp, registers.draw);
+}
+
+// The fifo of the state's window, with no control word: no call goes by it.
+fn bare(state: &[u32; 327]) -> Fifo
+    ensures { result ≡ record { window = window_of state.now; control = 0 } }
+{
+    Fifo {
+        window: words::window(state),
+        control: 0,
+    }
 }
 
 // Reads a hardware register; the control register as its word stands.
@@ -31,15 +38,10 @@ pub fn read_register(state: &[u32; 327], offset: u16, value: &mut u32) -> u32
         *value = state[6];
         return 0;
     }
-    let fifo = Fifo {
-        window: words::window(state),
-        control: 0,
-    };
-    let reading = registers::read_register(fifo, state[7] != 0, offset);
-    match reading {
-        Reading::Refused(reason) => encoding::refused(reason),
-        Reading::Value(held) => {
-            *value = held as u32;
+    match registers::read_register(bare(state), state[7] != 0, offset) {
+        Err(reason) => u32::from(reason),
+        Ok(held) => {
+            *value = u32::from(held);
             0
         }
     }
@@ -49,21 +51,15 @@ pub fn read_register(state: &[u32; 327], offset: u16, value: &mut u32) -> u32
 pub fn write_register(state: &mut [u32; 327], offset: u16, value: u16) -> u32
     ensures { WritesRegister state.old offset value result state.new }
 {
-    let fifo = Fifo {
-        window: words::window(state),
-        control: 0,
-    };
-    let changed = registers::write_register(fifo, offset, value);
-    let answer = changed.answer;
-    let after = changed.fifo;
-    if let Answer::Refused(reason) = answer {
-        return encoding::refused(reason);
+    let mut fifo = bare(state);
+    if let Err(reason) = registers::write_register(&mut fifo, offset, value) {
+        return u32::from(reason);
     }
     if offset == CONTROL {
-        saving::save_control(state, after.control);
+        saving::save_control(state, fifo.control);
         return 0;
     }
-    saving::save_window(state, after.window);
+    saving::save_window(state, fifo.window);
     0
 }
 
@@ -71,16 +67,10 @@ pub fn write_register(state: &mut [u32; 327], offset: u16, value: u16) -> u32
 pub fn feed(state: &mut [u32; 327], ring: &mut [u8], bytes: &[u8]) -> u32
     ensures { Feeds state.old ring.old bytes.now result state.new ring.new }
 {
-    let fifo = Fifo {
-        window: words::window(state),
-        control: 0,
-    };
-    let changed = queue::feed(fifo, ring, bytes);
-    let answer = changed.answer;
-    let after = changed.fifo;
-    if let Answer::Refused(reason) = answer {
-        return encoding::refused(reason);
+    let mut fifo = bare(state);
+    if let Err(reason) = queue::feed(&mut fifo, ring, bytes) {
+        return u32::from(reason);
     }
-    saving::save_write(state, after.window.write);
+    saving::save_write(state, fifo.window.write);
     0
 }

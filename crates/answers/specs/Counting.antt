@@ -1,6 +1,6 @@
 -- What a call that writes answers and leaves, as numbers.
-use Rattle.std.specs.Prelude.{◌≡◌, cond, List, ℕ, eqb, length}
-use Rattle.writer.specs.declared.Written.{Written}
+use Rattle.std.specs.Prelude.{◌≡◌, cond, List, ℕ, eqb, length, Result}
+use Rattle.refusal.specs.declared.Reason.{Reason}
 use Rattle.writer.specs.Write as writer
 use Rattle.encoding.specs.Told.{first_of, second_of}
 
@@ -11,6 +11,6 @@ pub record PutsBytes (refusal : ℕ) (bytes out : List ℕ) (count r : ℕ) (out
   pub count_is : count' ≡ cond (eqb r 0) (length bytes) count
 
 -- a writer's answer: the number told, and the count of bytes changed where the number is 0
-pub record CountsBytes (answer : Written) (count r count' : ℕ) : Type 0 where
+pub record CountsBytes (answer : Result ℕ Reason) (count r count' : ℕ) : Type 0 where
   pub answer_is : r ≡ first_of (writer.meaning answer)
   pub count_is : count' ≡ cond (eqb r 0) (second_of (writer.meaning answer)) count

@@ -1,4 +1,5 @@
 // What a look, a taking, a run and a writer answer, as numbers.
+// Numbers, and what is told beside them put into places that are lent, as C has it.
 #![tactic(auto)]
 
 ghost use Rattle.std.specs.Prelude.{◌≡◌};
@@ -7,9 +8,9 @@ ghost use Rattle.running.specs.Run.{meaning_of_stop};
 ghost use Rattle.encoding.specs.Told.{first_of, second_of, Tells};
 ghost use Rattle.answers.specs.Counting.{CountsBytes};
 
+use command::StepAnswer;
+use refusal::Reason;
 use running::Stop;
-use unit::StepAnswer;
-use writer::Written;
 
 // The number of what a look or a taking answers; where there is a unit its words, and where it waits the bytes lacking.
 pub fn tell_answer(answer: StepAnswer, unit: &mut [u32; 6], lacking: &mut u32) -> u32
@@ -28,7 +29,7 @@ pub fn tell_answer(answer: StepAnswer, unit: &mut [u32; 6], lacking: &mut u32) -
             *lacking = bytes;
             255
         }
-        StepAnswer::Refused(reason) => encoding::refused(reason),
+        StepAnswer::Refused(reason) => u32::from(reason),
     }
 }
 
@@ -39,7 +40,7 @@ pub fn stop_number(stop: Stop) -> u32
     match stop {
         Stop::Limit => 0,
         Stop::Waiting(_) => 255,
-        Stop::Refused(reason) => encoding::refused(reason),
+        Stop::Refused(reason) => u32::from(reason),
     }
 }
 
@@ -48,21 +49,20 @@ pub fn stop_lacking(stop: Stop) -> u32
     ensures { result ≡ second_of (meaning_of_stop stop) }
 {
     match stop {
-        Stop::Limit => 0,
         Stop::Waiting(lacking) => lacking,
-        Stop::Refused(_) => 0,
+        Stop::Limit | Stop::Refused(_) => 0,
     }
 }
 
 // The number of a writer's answer, and where it is 0 the bytes written.
-pub fn tell_bytes(answer: Written, written: &mut u32) -> u32
+pub fn tell_bytes(answer: Result<u32, Reason>, written: &mut u32) -> u32
     ensures { CountsBytes answer written.old result written.new }
 {
     match answer {
-        Written::Refused(reason) => encoding::refused(reason),
-        Written::Bytes(count) => {
+        Ok(count) => {
             *written = count;
             0
         }
+        Err(reason) => u32::from(reason),
     }
 }

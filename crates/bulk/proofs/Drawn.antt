@@ -2,13 +2,14 @@
 use mathlib.Core.Path.{◌≡◌, refl, sym, ap, ◌∙◌}
 use mathlib.Core.Bool.{Bool, true, false}
 use mathlib.Core.List.{List, ◌++◌}
-use Prim.Native.Nat.{ℕ, zero, suc, ◌+◌, ◌-◌, ◌*◌, ◌/◌, ◌%◌, ◌^◌, ◌<◌, ◌≤◌, min}
-use native.Mathlib.Nat.{add-zero, sub-zero, zero-mul, suc-mul, div-mul-le_self, mul-le-mul_right, mul-le-mul_left, le_trans, lt_of_le_of_lt}
+use Rattle.std.specs.Prelude.{Option}
+use Prim.Native.Nat.{ℕ, zero, suc, ◌+◌, ◌-◌, ◌*◌, ◌/◌, ◌%◌, ◌<◌, ◌≤◌}
+use native.Mathlib.Nat.{add-zero, sub-zero, zero-mul, suc-mul}
 use native.Mathlib.Numerals.{add-one}
 use native.Mathlib.Omega.{arith}
 use lib.Dec.{leb}
 use lib.ListN.{length, get_or, take, drop, length-append, length-drop}
-use lib.Seq.{drop_at, length-take-le}
+use lib.Seq.{get_or-drop, drop_at, length-take-le}
 use borrow.Author.Tests.{leb-true}
 use Rattle.command.specs.declared.Draw.{Draw}
 use Rattle.command.specs.declared.Draw.TheVariants.{Open}
@@ -20,7 +21,7 @@ use Rattle.command.proofs.Decided.{looks_vertex, looks_head}
 use Rattle.effect.specs.Effect.{cp_after, bp_after, xf_after, vertex_after, draw_after, opened_by, counted_down, copied}
 use Rattle.walk.specs.Flat.{Core, core_of, core_after}
 use Rattle.walk.specs.Moves.{Moves, shut}
-use Rattle.walk.proofs.Walks.{rest_at, first_at, there, One, moves_none, moves_next, moves_then}
+use Rattle.walk.proofs.Walks.{first_at, there, One, moves_none, moves_next, moves_then}
 use Rattle.bulk.specs.Inner.{Known, Sized, Fits, copied_at, MovesVertices, MovesOpen}
 
 -- ---- a vertex over another of as many bytes
@@ -124,24 +125,6 @@ module _ (bytes : List ℕ) (from : ℕ) (cp bp : List ℕ) (p f left : ℕ) (xf
 
 -- ---- as many as are taken
 
--- all of them, where the bytes of all are there
-pub fits_all : {room size left most : ℕ} → left ≤ most → left * size ≤ room → Fits room size left most left
-fits_all {room} {size} {left} h l = record { inside = l; unspent = omega arith; allowed = h }
-
--- else as many as are whole
-pub fits_least : {room size left most n k : ℕ} → k ≡ min left most → n ≡ min (room / size) k → Fits room size left most n
-fits_least {room} {size} {left} {most} {n} {k} f e =
-    let h : n ≤ room / size = omega arith in
-    record {
-      inside = le_trans (mul-le-mul_right size h) (div-mul-le_self room size);
-      unspent = omega arith;
-      allowed = omega arith;
-    }
-
--- the bytes of all vertices of a draw
-pub product_fits : (left size : ℕ) → left < 65536 → size ≤ 129 → left * size < 2 ^ 64
-product_fits left size h s = lt_of_le_of_lt (mul-le-mul_left left s) (omega arith)
-
 -- some vertices have the bytes of one
 pub one_fits : (n size : ℕ) → 1 ≤ n → size ≤ n * size
 one_fits zero size h = absurd (omega (arith, h))
@@ -184,12 +167,13 @@ pub size_modulo : (cp : List ℕ) (f : ℕ) → vertex_bytes cp (f % 8) ≡ vert
 unfolding descriptor_of
 size_modulo cp f = let e : f % 8 % 8 ≡ f % 8 = omega arith in rw e
 
-pub open_none : {bytes cp : List ℕ} {draw : Draw} {buffer : List ℕ} {most : ℕ} {sizes : List ℕ} → Known cp sizes
+pub open_none : {bytes cp : List ℕ} {draw : Draw} {buffer : List ℕ} {most : ℕ} {sizes : List (Option ℕ)} → Known cp sizes
     → MovesOpen bytes cp draw buffer most 0 0 draw sizes buffer
 open_none k = record { any = λ bp xf. moves_none; known = k }
 
 pub open_some : {bytes cp : List ℕ} {p f left size : ℕ} {buffer : List ℕ} {most units to : ℕ} {draw' : Draw} {buffer' : List ℕ}
-    {sizes : List ℕ} → (left ≡ 0 → ⊥) → Sized cp (f % 8) size sizes → MovesVertices bytes 0 p f left size buffer most units to draw' buffer'
+    {sizes : List (Option ℕ)} → (left ≡ 0 → ⊥) → Sized cp (f % 8) size sizes
+    → MovesVertices bytes 0 p f left size buffer most units to draw' buffer'
     → MovesOpen bytes cp (Open p f left) buffer most units to draw' sizes buffer'
 open_some {bytes} {cp} {p} {f} {left} z e v =
     record {
@@ -210,7 +194,7 @@ module _ (bytes : List ℕ) (at op : ℕ) (cp bp xf buffer : List ℕ) (count : 
       → One bytes at (shut cp bp xf buffer) 3 (core_of cp bp (opened_by (op / 8 % 8) (op % 8) count) xf buffer)
   one_head h e l g s c =
       let b : List ℕ = drop at bytes in
-      let n : count ≡ big_endian b 1 2 = c ∙ sym (two_bytes b 1 ∙ rw (rest_at bytes at 1, rest_at bytes at 2)) in
+      let n : count ≡ big_endian b 1 2 = c ∙ sym (two_bytes b 1 ∙ rw (get_or-drop at bytes 1 0, get_or-drop at bytes 2 0)) in
       record {
         command = draw_head (op / 8 % 8) (op % 8) count;
         memory = 0;

@@ -1,35 +1,29 @@
 // Draws: a head with its vertices, and the vertices of a draw that is open. Only the last vertex is copied, because each overwrites the
 // one before it.
-ghost use Rattle.std.specs.Prelude.{◌≡◌, ◌+◌, ◌-◌, ◌*◌, ◌<◌, ◌≤◌, min, length, get_or};
+ghost use Rattle.std.specs.Prelude.{◌≡◌, ◌+◌, ◌-◌, ◌*◌, ◌<◌, ◌≤◌, length, get_or};
 ghost use Rattle.command.specs.Look.{largest_vertex};
 ghost use Rattle.bulk.specs.Inner.{Known, Sized, Fits, copied_at, Leaves, VertexSize, MovesVertices, MovesOpen, MovesDraw};
 
 use crate::Many;
 use command::Draw;
-
-// A byte as a number.
-fn wide(x: u8) -> u32
-    ensures { result ≡ x }
-{
-    x as u32
-}
+use plain::Passed;
 
 // The bytes of a vertex of a format, kept from then on; 0 where its layout is refused.
-fn size_of(cp: &[u32; 60], sizes: &mut [u8; 8], format: u8) -> u32
+fn size_of(cp: &[u32; 60], sizes: &mut [Option<u8>; 8], format: u8) -> u32
     requires { (format < 8) × Known cp.now sizes.old }
     ensures { Sized cp.now format result sizes.new }
 {
     let f = format as usize;
-    let known = wide(sizes[f]);
-    if known != 0 {
-        return known;
+    if let Some(known) = sizes[f] {
+        return u32::from(known);
     }
     let size = looking::vertex_bytes(cp, format);
-    sizes[f] = size as u8;
+    sizes[f] = Some(size as u8);
     size
 }
 
 // Copies the last of n vertices from a place on.
+// Bytes and a place, here and below: the place that is answered is one of the whole list. That a size is not 0 its caller has just tested.
 fn copy_last(bytes: &[u8], from: usize, n: usize, size: usize, buffer: &mut [u8])
     requires { (1 ≤ n) × (from + n * size ≤ length bytes.now) }
     ensures { buffer.new ≡ copied_at bytes.now (from + n * size - size) size buffer.old }
@@ -39,24 +33,15 @@ fn copy_last(bytes: &[u8], from: usize, n: usize, size: usize, buffer: &mut [u8]
     effect::copy_vertex(buffer, &bytes[start..end]);
 }
 
-// The less of two.
-fn least(a: usize, b: usize) -> usize
-    ensures { result ≡ min a b }
-{
-    if a < b { a } else { b }
-}
-
 // A number of vertices of so many bytes that are whole in the room, left and allowed. All that are left is tried first, without a division.
 fn whole(room: usize, size: usize, left: usize, most: usize) -> usize
     requires { (1 ≤ size) × ((size ≤ largest_vertex) × (left < 65536)) }
     ensures { Fits room size left most result }
 {
-    if left <= most {
-        if left * size <= room {
-            return left;
-        }
+    if left <= most && left * size <= room {
+        return left;
     }
-    least(room / size, least(left, most))
+    (room / size).min(left.min(most))
 }
 
 // The whole vertices of a draw from a place on, at most so many: each has so many bytes.
@@ -99,7 +84,7 @@ pub(crate) fn take_draw(
     at: usize,
     op: u8,
     cp: &[u32; 60],
-    sizes: &mut [u8; 8],
+    sizes: &mut [Option<u8>; 8],
     buffer: &mut [u8],
     most: u32,
 ) -> Many
@@ -108,23 +93,14 @@ pub(crate) fn take_draw(
     ensures { MovesDraw bytes.now at cp.now buffer.old most result.units result.at result.draw
         sizes.new buffer.new × VertexSize cp.now result.draw result.size }
 {
+    let none = Many::from(Passed { units: 0, at });
     if bytes.len() - at < 3 {
-        return Many {
-            units: 0,
-            at,
-            draw: Draw::Closed,
-            size: 0,
-        };
+        return none;
     }
     let format = op % 8;
     let size = size_of(cp, sizes, format) as usize;
     if size == 0 {
-        return Many {
-            units: 0,
-            at,
-            draw: Draw::Closed,
-            size: 0,
-        };
+        return none;
     }
     let count = octets::half(bytes[at + 1], bytes[at + 2]);
     let some = take_vertices(
@@ -137,12 +113,9 @@ pub(crate) fn take_draw(
         buffer,
         most - 1,
     );
-    let left = some.draw;
     Many {
         units: some.units + 1,
-        at: some.at,
-        draw: left,
-        size: some.size,
+        ..some
     }
 }
 
@@ -150,7 +123,7 @@ pub(crate) fn take_draw(
 pub(crate) fn take_open(
     bytes: &[u8],
     cp: &[u32; 60],
-    sizes: &mut [u8; 8],
+    sizes: &mut [Option<u8>; 8],
     draw: Draw,
     buffer: &mut [u8],
     most: u32,
@@ -159,36 +132,26 @@ pub(crate) fn take_open(
     ensures { MovesOpen bytes.now cp.now draw buffer.old most result.units result.at result.draw
         sizes.new buffer.new × VertexSize cp.now result.draw result.size }
 {
-    match draw {
-        Draw::Closed => Many {
-            units: 0,
-            at: 0,
-            draw,
-            size: 0,
-        },
-        Draw::Open {
-            primitive,
-            format,
-            left,
-        } => {
-            if left == 0 {
-                return Many {
-                    units: 0,
-                    at: 0,
-                    draw,
-                    size: 0,
-                };
-            }
-            let size = size_of(cp, sizes, format % 8) as usize;
-            if size == 0 {
-                return Many {
-                    units: 0,
-                    at: 0,
-                    draw,
-                    size: 0,
-                };
-            }
-            take_vertices(bytes, 0, primitive, format, left, size, buffer, most)
-        }
+    let none = Many {
+        units: 0,
+        at: 0,
+        draw,
+        size: 0,
+    };
+    let Draw::Open {
+        primitive,
+        format,
+        left,
+    } = draw
+    else {
+        return none;
+    };
+    if left == 0 {
+        return none;
     }
+    let size = size_of(cp, sizes, format % 8) as usize;
+    if size == 0 {
+        return none;
+    }
+    take_vertices(bytes, 0, primitive, format, left, size, buffer, most)
 }

@@ -13,7 +13,8 @@ const VCD: u8 = 0x50;
 const ARRAYS: u8 = 0xA0;
 
 // Executes a CP load, and forgets the sizes of vertices where it is of the VCD or a VAT; false where it is refused.
-fn execute_cp(cp: &mut [u32; 60], sizes: &mut [u8; 8], address: u8, number: u32) -> bool
+// false where it is refused: the loop stops there, and why is told by the look that comes next.
+fn execute_cp(cp: &mut [u32; 60], sizes: &mut [Option<u8>; 8], address: u8, number: u32) -> bool
     requires { Known cp.old sizes.old }
     ensures { Executes address number cp.old sizes.old result cp.new sizes.new }
 {
@@ -27,28 +28,24 @@ fn execute_cp(cp: &mut [u32; 60], sizes: &mut [u8; 8], address: u8, number: u32)
     if address < VCD {
         return true;
     }
-    *sizes = [0u8; 8];
+    *sizes = [None; 8];
     true
 }
 
-// CP loads that follow each other, at most so many.
+// CP loads that follow each other, at most so many. `loading` says why this loop and its two are not one.
 pub(crate) fn take_cp(
     bytes: &[u8],
     from: usize,
     cp: &mut [u32; 60],
-    sizes: &mut [u8; 8],
+    sizes: &mut [Option<u8>; 8],
     most: u32,
 ) -> Passed
     requires { (from ≤ length bytes.now) × Known cp.old sizes.old }
     ensures { MovesCp bytes.now from cp.old most result.units result.at cp.new sizes.new }
 {
     let mut at = from;
-    let mut units: u32 = 0;
-    while units < most {
-        if bytes.len() - at < 6 {
-            return Passed { units, at };
-        }
-        if bytes[at] != CP {
+    for units in 0..most {
+        if bytes.len() - at < 6 || bytes[at] != CP {
             return Passed { units, at };
         }
         let number = octets::word(bytes[at + 2], bytes[at + 3], bytes[at + 4], bytes[at + 5]);
@@ -56,7 +53,6 @@ pub(crate) fn take_cp(
             return Passed { units, at };
         }
         at += 6;
-        units += 1;
     }
-    Passed { units, at }
+    Passed { units: most, at }
 }

@@ -10,19 +10,8 @@ use crate::{Many, draws, loads};
 use command::Draw;
 use plain::Passed;
 
-// Units that leave no draw open.
-fn closed(step: Passed) -> Many
-    ensures { (result.units ≡ step.units) × ((result.at ≡ step.at) × (result.draw ≡ Draw.Closed)) }
-{
-    Many {
-        units: step.units,
-        at: step.at,
-        draw: Draw::Closed,
-        size: 0,
-    }
-}
-
 // The units of one class that the bytes go on with.
+// A match: each class changes other parts of what is lent, which no table of functions could take alike.
 fn take_class(
     bytes: &[u8],
     at: usize,
@@ -30,7 +19,7 @@ fn take_class(
     bp: &mut [u32],
     xf: &mut [u32],
     buffer: &mut [u8],
-    sizes: &mut [u8; 8],
+    sizes: &mut [Option<u8>; 8],
     most: u32,
 ) -> Many
     requires { (at < length bytes.now) × ((1 ≤ most) × Known cp.old sizes.old) }
@@ -40,24 +29,20 @@ fn take_class(
 {
     let op = bytes[at];
     match op {
-        0x61 => closed(loading::take_bp(bytes, at, bp, most)),
-        0x00 => closed(plain::take_zeros(bytes, at, most)),
-        0x08 => closed(loads::take_cp(bytes, at, cp, sizes, most)),
-        0x10 => closed(loading::take_xf(bytes, at, xf, most)),
-        0x48 | 0x44 => closed(plain::take_fixed(bytes, at, 1)),
-        0x20 | 0x28 | 0x30 | 0x38 => closed(plain::take_fixed(bytes, at, 5)),
-        0x40 => closed(plain::take_fixed(bytes, at, 9)),
+        0x61 => Many::from(loading::take_bp(bytes, at, bp, most)),
+        0x00 => Many::from(plain::take_zeros(bytes, at, most)),
+        0x08 => Many::from(loads::take_cp(bytes, at, cp, sizes, most)),
+        0x10 => Many::from(loading::take_xf(bytes, at, xf, most)),
+        0x48 | 0x44 => Many::from(plain::take_fixed(bytes, at, 1)),
+        0x20 | 0x28 | 0x30 | 0x38 => Many::from(plain::take_fixed(bytes, at, 5)),
+        0x40 => Many::from(plain::take_fixed(bytes, at, 9)),
         0x80..=0xBF => draws::take_draw(bytes, at, op, cp, sizes, buffer, most),
-        _ => Many {
-            units: 0,
-            at,
-            draw: Draw::Closed,
-            size: 0,
-        },
+        _ => Many::from(Passed { units: 0, at }),
     }
 }
 
 // Units from a place on, where no draw is open, until a draw is left open.
+// A let-else and no test: past it a proof knows that no draw is open.
 fn take_shut(
     bytes: &[u8],
     from: usize,
@@ -65,7 +50,7 @@ fn take_shut(
     bp: &mut [u32],
     xf: &mut [u32],
     buffer: &mut [u8],
-    sizes: &mut [u8; 8],
+    sizes: &mut [Option<u8>; 8],
     limit: u32,
 ) -> Many
     requires { (from ≤ length bytes.now) × Known cp.old sizes.old }
@@ -75,42 +60,22 @@ fn take_shut(
 {
     let mut at = from;
     let mut units: u32 = 0;
+    // A `while`: a turn takes units of a class, as many as there are, and the sum of them is counted.
     while units < limit {
         if bytes.len() <= at {
-            return Many {
-                units,
-                at,
-                draw: Draw::Closed,
-                size: 0,
-            };
+            return Many::from(Passed { units, at });
         }
         let many = take_class(bytes, at, cp, bp, xf, buffer, sizes, limit - units);
         at = many.at;
         units += many.units;
-        let left = many.draw;
-        let Draw::Closed = left else {
-            return Many {
-                units,
-                at,
-                draw: left,
-                size: many.size,
-            };
+        let Draw::Closed = many.draw else {
+            return Many { units, ..many };
         };
         if many.units == 0 {
-            return Many {
-                units,
-                at,
-                draw: Draw::Closed,
-                size: 0,
-            };
+            return Many::from(Passed { units, at });
         }
     }
-    Many {
-        units,
-        at,
-        draw: Draw::Closed,
-        size: 0,
-    }
+    Many::from(Passed { units, at })
 }
 
 // Units off the front of the bytes, at most so many: it may stop before any of them.
@@ -128,10 +93,9 @@ pub fn take_straight(
         limit result.units result.at (core_of cp.new bp.new result.draw xf.new buffer.new)
         × (result.size ≡ size_told cp.new result.draw) }
 {
-    let mut sizes = [0u8; 8];
+    let mut sizes = [None; 8];
     let first = draws::take_open(bytes, cp, &mut sizes, draw, buffer, limit);
-    let left = first.draw;
-    let Draw::Closed = left else {
+    let Draw::Closed = first.draw else {
         return first;
     };
     let next = take_shut(
@@ -144,11 +108,8 @@ pub fn take_straight(
         &mut sizes,
         limit - first.units,
     );
-    let open = next.draw;
     Many {
         units: first.units + next.units,
-        at: next.at,
-        draw: open,
-        size: next.size,
+        ..next
     }
 }

@@ -7,7 +7,7 @@ use native.Mathlib.Omega.{arith}
 use lib.Dec.{ltb, eqb, lit≤}
 use lib.ListN.{get_or}
 use borrow.Author.Tests.{ltb-true, ltb-false, eqb-true, eqb-false}
-use Rattle.laws.proofs.Cases.{cond_both}
+use Rattle.std.proofs.lemmas.Bool.{cond_both}
 use Rattle.fields.specs.declared.Descriptor.{Descriptor}
 use Rattle.fields.specs.Fields.{mode_of}
 use Rattle.layout.specs.Sizes.{any_unknown}
@@ -24,7 +24,7 @@ pub use Rattle.command.specs.Bounds.{Fair}
 fair_whole : (n length : ℕ) (c : List ℕ) (m : ℕ) → 1 ≤ length → length ≤ 129 → Fair n (whole n length c m)
 unfolding whole
 fair_whole n length c m some most =
-    cond_both (Fair n) (ltb n length)
+    cond_both (ltb n length) _ _ (Fair n)
     (λ t. let h : n < length = ltb-true n length t in (omega arith, omega arith))
     (λ f. (some, (ltb-false n length f, most)))
 
@@ -36,8 +36,8 @@ Named r = 1 ≤ r → (6 ≤ r) × (r ≤ 10)
 layout_refuses : (d : Descriptor) → Named (refusal_of d)
 unfolding refusal_of
 layout_refuses d =
-    cond_both Named (eqb (mode_of d 9) 0) (λ _ _. (lit≤ tt, lit≤ tt))
-    (λ _. cond_both Named (any_unknown d 21) (λ _ _. (lit≤ tt, lit≤ tt)) (λ _ h. absurd (omega (arith, h))))
+    cond_both (eqb (mode_of d 9) 0) _ _ Named (λ _ _. (lit≤ tt, lit≤ tt))
+    (λ _. cond_both (any_unknown d 21) _ _ Named (λ _ _. (lit≤ tt, lit≤ tt)) (λ _ h. absurd (omega (arith, h))))
 
 fair_unless : (n r : ℕ) (x : Found) → Named r → (r ≡ 0 → Fair n x) → Fair n (unless_refused r x)
 fair_unless n zero x h f = f refl
@@ -51,14 +51,14 @@ module _ (b : List ℕ) (n : ℕ) where
   fair_cp : 1 ≤ n → Fair n (look_cp b n)
   unfolding look_cp
   fair_cp h =
-      cond_both (Fair n) (ltb n 2) (λ t. let l : n < 2 = ltb-true n 2 t in (omega arith, omega arith))
-      (λ _. cond_both (Fair n) (cp_accepted (get_or b 1 0)) (λ _. fair_whole n 6 _ 0 (lit≤ tt) (lit≤ tt)) (λ _. (lit≤ tt, lit≤ tt)))
+      cond_both (ltb n 2) _ _ (Fair n) (λ t. let l : n < 2 = ltb-true n 2 t in (omega arith, omega arith))
+      (λ _. cond_both (cp_accepted (get_or b 1 0)) _ _ (Fair n) (λ _. fair_whole n 6 _ 0 (lit≤ tt) (lit≤ tt)) (λ _. (lit≤ tt, lit≤ tt)))
 
   fair_xf : Fair n (look_xf b n)
   unfolding look_xf
   fair_xf =
-      cond_both (Fair n) (ltb n 5) (λ t. let l : n < 5 = ltb-true n 5 t in (omega arith, omega arith))
-      (λ _. cond_both (Fair n) (ltb xf_count (xf_address b + xf_words b)) (λ _. (lit≤ tt, lit≤ tt))
+      cond_both (ltb n 5) _ _ (Fair n) (λ t. let l : n < 5 = ltb-true n 5 t in (omega arith, omega arith))
+      (λ _. cond_both (ltb xf_count (xf_address b + xf_words b)) _ _ (Fair n) (λ _. (lit≤ tt, lit≤ tt))
       (λ _. fair_whole n (5 + 4 * xf_words b) _ 0 (omega arith) (omega (arith, (words_bounds b).1))))
 
   fair_bp : Fair n (look_bp b n)
@@ -80,20 +80,20 @@ module _ (b : List ℕ) (n : ℕ) where
   fair_opcode : (op : ℕ) (cp : List ℕ) → 1 ≤ n → Fair n (by_opcode op b n cp)
   unfolding by_opcode look_call look_indexed
   fair_opcode op cp h =
-      cond_both (Fair n) (eqb op 0x00) (λ _. fair_whole n 1 _ 0 (lit≤ tt) (lit≤ tt))
-      (λ _. cond_both (Fair n) (eqb op 0x48) (λ _. fair_whole n 1 _ 0 (lit≤ tt) (lit≤ tt))
-      (λ _. cond_both (Fair n) (eqb op 0x44) (λ _. fair_whole n 1 _ 0 (lit≤ tt) (lit≤ tt))
-      (λ _. cond_both (Fair n) (eqb op 0x08) (λ _. fair_cp h)
-      (λ _. cond_both (Fair n) (eqb op 0x10) (λ _. fair_xf)
-      (λ _. cond_both (Fair n) (is_indexed op) (λ _. fair_whole n 5 _ _ (lit≤ tt) (lit≤ tt))
-      (λ _. cond_both (Fair n) (eqb op 0x40) (λ _. fair_whole n 9 _ 0 (lit≤ tt) (lit≤ tt))
-      (λ _. cond_both (Fair n) (eqb op 0x61) (λ _. fair_bp)
-      (λ _. cond_both (Fair n) (is_draw op) (λ _. fair_head op cp) (λ _. (lit≤ tt, lit≤ tt))))))))))
+      cond_both (eqb op 0x00) _ _ (Fair n) (λ _. fair_whole n 1 _ 0 (lit≤ tt) (lit≤ tt))
+      (λ _. cond_both (eqb op 0x48) _ _ (Fair n) (λ _. fair_whole n 1 _ 0 (lit≤ tt) (lit≤ tt))
+      (λ _. cond_both (eqb op 0x44) _ _ (Fair n) (λ _. fair_whole n 1 _ 0 (lit≤ tt) (lit≤ tt))
+      (λ _. cond_both (eqb op 0x08) _ _ (Fair n) (λ _. fair_cp h)
+      (λ _. cond_both (eqb op 0x10) _ _ (Fair n) (λ _. fair_xf)
+      (λ _. cond_both (is_indexed op) _ _ (Fair n) (λ _. fair_whole n 5 _ _ (lit≤ tt) (lit≤ tt))
+      (λ _. cond_both (eqb op 0x40) _ _ (Fair n) (λ _. fair_whole n 9 _ 0 (lit≤ tt) (lit≤ tt))
+      (λ _. cond_both (eqb op 0x61) _ _ (Fair n) (λ _. fair_bp)
+      (λ _. cond_both (is_draw op) _ _ (Fair n) (λ _. fair_head op cp) (λ _. (lit≤ tt, lit≤ tt))))))))))
 
   pub look_fair : (cp : List ℕ) (draw : Draw) → Fair n (look_of b n cp draw)
   unfolding look_of look_vertex
   look_fair cp Closed =
-      cond_both (Fair n) (eqb n 0) (λ e. let z : n ≡ 0 = eqb-true n 0 e in (lit≤ tt, omega arith))
+      cond_both (eqb n 0) _ _ (Fair n) (λ e. let z : n ≡ 0 = eqb-true n 0 e in (lit≤ tt, omega arith))
       (λ f. let some : n ≡ 0 → ⊥ = eqb-false n 0 f in fair_opcode (get_or b 0 0) cp (omega arith))
   look_fair cp (Open primitive format left) = fair_vertex (descriptor_of cp format)
 

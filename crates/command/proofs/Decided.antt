@@ -77,7 +77,8 @@ head_other op h =
       bp = λ e. omega arith;
     }
 
-pub looks_head : (b : List ℕ) (n : ℕ) (cp : List ℕ) (op : ℕ) → get_or b 0 0 ≡ op → 0x80 ≤ op → op < 0xC0 → 1 ≤ vertex_bytes cp (op % 8) → 3 ≤ n
+pub looks_head : (b : List ℕ) (n : ℕ) (cp : List ℕ) (op : ℕ) → get_or b 0 0 ≡ op → 0x80 ≤ op → op < 0xC0
+    → 1 ≤ vertex_bytes cp (op % 8) → 3 ≤ n
     → look_of b n cp Closed ≡ unit (draw_head (op / 8 % 8) (op % 8) (big_endian b 1 2)) 0 3
 unfolding look_head whole
 looks_head b n cp op e l h s t =

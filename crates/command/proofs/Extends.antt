@@ -8,7 +8,7 @@ use native.Mathlib.Omega.{arith}
 use lib.Dec.{ltb, eqb}
 use lib.ListN.{get_or}
 use borrow.Author.Tests.{lt-ltb, le-ltb, eq-eqb, ne_eqb, eqb-true}
-use Rattle.laws.proofs.Cases.{order, cond_both}
+use Rattle.std.proofs.lemmas.Bool.{cases_lt, cond_both}
 use Rattle.octets.specs.BigEndian.{big_endian}
 use Rattle.octets.proofs.Number.{agree}
 use Rattle.layout.specs.Answers.{refusal_of}
@@ -62,7 +62,7 @@ unit_longer n length c m h d k l e = let s : length ≡ l = cc in omega arith
 whole_longer : (n n' length : ℕ) (c : List ℕ) (m : ℕ) → n < length → Longer n (whole n' length c m)
 unfolding whole
 whole_longer n n' length c m h =
-    cond_both (Longer n) (ltb n' length) (λ _. no_unit_longer n (waiting_no_unit (length - n'))) (λ _. unit_longer n length c m h)
+    cond_both (ltb n' length) _ _ (Longer n) (λ _. no_unit_longer n (waiting_no_unit (length - n'))) (λ _. unit_longer n length c m h)
 
 module _ (E : Type 0) (n n' : ℕ) (more : n ≤ n') where
   ext_settled : {x y : Found} → Settled x → x ≡ y → Extends E n n' x y
@@ -110,7 +110,7 @@ module _ (E : Type 0) (n n' : ℕ) (more : n ≤ n') where
       (λ h.
       let i : length ≤ n' = omega arith in
       rw (le-ltb n length h, le-ltb n' length i) (ext_settled (unit_settled c m length) (rw ((f h).0, (f h).1))))
-      (order n length)
+      (cases_lt n length)
 
 -- ---- each class of unit
 
@@ -118,25 +118,25 @@ module _ (E : Type 0) (n n' : ℕ) (more : n ≤ n') where
 cp_below : (p : List ℕ) (n : ℕ) → n < 6 → NoUnit (look_cp p n)
 unfolding look_cp whole
 cp_below p n h =
-    cond_both NoUnit (ltb n 2) (λ _. waiting_no_unit (6 - n))
-    (λ _. cond_both NoUnit (cp_accepted (get_or p 1 0)) (λ _. rw (lt-ltb n 6 h) (waiting_no_unit (6 - n))) (λ _. refused_no_unit 7))
+    cond_both (ltb n 2) _ _ NoUnit (λ _. waiting_no_unit (6 - n))
+    (λ _. cond_both (cp_accepted (get_or p 1 0)) _ _ NoUnit (λ _. rw (lt-ltb n 6 h) (waiting_no_unit (6 - n))) (λ _. refused_no_unit 7))
 
 cp_at : (p : List ℕ) (n : ℕ) → n ≡ 6 → Settled (look_cp p n)
 unfolding look_cp whole
-cp_at p n e = rw e (cond_both Settled (cp_accepted (get_or p 1 0)) (λ _. unit_settled _ _ _) (λ _. refused_settled 7))
+cp_at p n e = rw e (cond_both (cp_accepted (get_or p 1 0)) _ _ Settled (λ _. unit_settled _ _ _) (λ _. refused_settled 7))
 
 cp_longer : (p : List ℕ) (n n' : ℕ) → n < 2 → Longer n (look_cp p n')
 unfolding look_cp
 cp_longer p n n' h =
-    cond_both (Longer n) (ltb n' 2) (λ _. no_unit_longer n (waiting_no_unit (6 - n')))
-    (λ _. cond_both (Longer n) (cp_accepted (get_or p 1 0)) (λ _. whole_longer n n' 6 _ 0 (omega arith))
+    cond_both (ltb n' 2) _ _ (Longer n) (λ _. no_unit_longer n (waiting_no_unit (6 - n')))
+    (λ _. cond_both (cp_accepted (get_or p 1 0)) _ _ (Longer n) (λ _. whole_longer n n' 6 _ 0 (omega arith))
     (λ _. no_unit_longer n (refused_no_unit 7)))
 
 xf_longer : (p : List ℕ) (n n' : ℕ) → n < 5 → Longer n (look_xf p n')
 unfolding look_xf
 xf_longer p n n' h =
-    cond_both (Longer n) (ltb n' 5) (λ _. no_unit_longer n (waiting_no_unit (5 - n')))
-    (λ _. cond_both (Longer n) (ltb xf_count (xf_address p + xf_words p)) (λ _. no_unit_longer n (refused_no_unit 8))
+    cond_both (ltb n' 5) _ _ (Longer n) (λ _. no_unit_longer n (waiting_no_unit (5 - n')))
+    (λ _. cond_both (ltb xf_count (xf_address p + xf_words p)) _ _ (Longer n) (λ _. no_unit_longer n (refused_no_unit 8))
     (λ _. whole_longer n n' (5 + 4 * xf_words p) _ 0 (omega arith)))
 
 -- a part of its head
@@ -172,7 +172,7 @@ module _ (E : Type 0) (p p' : List ℕ) (n n' : ℕ) (more : n ≤ n') (same : (
       rw (cp_first h)
       (ext_waiting E n n' more (6 - n) (λ g. cp_below p' n' (omega arith)) (λ g _. cp_at p' n' (omega arith)) (cp_longer p' n n' h)))
       cp_later
-      (order n 2)
+      (cases_lt n 2)
 
   xf_later : 5 ≤ n → Extends E n n' (look_xf p n) (look_xf p' n')
   unfolding look_xf xf_words xf_address
@@ -191,7 +191,7 @@ module _ (E : Type 0) (p p' : List ℕ) (n n' : ℕ) (more : n ≤ n') (same : (
       rw (xf_first p n h)
       (ext_waiting E n n' more (5 - n) (λ g. xf_below p' n' (omega arith)) (λ g u. absurd (u (exempt h))) (xf_longer p' n n' h)))
       xf_later
-      (order n 5)
+      (cases_lt n 5)
 
   ext_bp : Extends E n n' (look_bp p n) (look_bp p' n')
   unfolding look_bp
@@ -252,5 +252,5 @@ module _ (p p' : List ℕ) (n n' : ℕ) (more : n ≤ n') (same : (k : ℕ) → 
   -- the answer at n bytes, and at n' of which these are the first
   pub look_extends : (draw : Draw) → Extends (Heads p n draw) n n' (look_of p n cp draw) (look_of p' n' cp draw)
   unfolding look_of
-  look_extends Closed = ⊎_elim (λ h. ext_none (omega arith)) ext_some (order n 1)
+  look_extends Closed = ⊎_elim (λ h. ext_none (omega arith)) ext_some (cases_lt n 1)
   look_extends (Open primitive format left) = ext_vertex ⊥ p p' n n' more same cp format

@@ -10,8 +10,8 @@ use Rattle.refusal.proofs.Injective.{number_injective}
 use Rattle.command.specs.declared.Command.{Command}
 use Rattle.command.specs.declared.Command.TheVariants.{NoOperation, InvalidateCache, Metrics, LoadCp, LoadXf, LoadIndexed}
 use Rattle.command.specs.declared.Command.TheVariants.{CallList, LoadBp, DrawHead, Vertex}
-use Rattle.command.specs.declared.Next.{Next}
-use Rattle.command.specs.declared.Next.TheVariants.{Unit, Waiting, Refused}
+use Rattle.command.specs.declared.StepAnswer.{StepAnswer}
+use Rattle.command.specs.declared.StepAnswer.TheVariants.{Done, Waiting, Refused}
 use Rattle.command.specs.Command.{kind_of, field_of, numbers_of, meaning}
 
 -- the command of a list of numbers
@@ -48,19 +48,19 @@ numbers_injective a b e = sym (found a) ∙ ap command_of e ∙ found b
 never : {A : Type 0} → ◌≡◌ {A = ℕ} 0 1 → A
 never e = absurd (omega (arith, e))
 
-pub meaning_injective : (a b : Next) → meaning a ≡ meaning b → a ≡ b
-meaning_injective (Unit c m l) (Unit d k j) e =
+pub meaning_injective : (a b : StepAnswer) → meaning a ≡ meaning b → a ≡ b
+meaning_injective (Done c m l) (Done d k j) e =
     let p : numbers_of c ≡ numbers_of d = cc in
     let q : c ≡ d = numbers_injective c d p in
     let r : m ≡ k = cc in
     let s : l ≡ j = cc in
     cc
-meaning_injective (Unit c m l) (Waiting k) e = never (cc)
-meaning_injective (Unit c m l) (Refused r) e = never (cc)
-meaning_injective (Waiting k) (Unit c m l) e = never (cc)
+meaning_injective (Done c m l) (Waiting k) e = never (cc)
+meaning_injective (Done c m l) (Refused r) e = never (cc)
+meaning_injective (Waiting k) (Done c m l) e = never (cc)
 meaning_injective (Waiting k) (Waiting j) e = let p : k ≡ j = cc in cc
 meaning_injective (Waiting k) (Refused r) e = never (cc)
-meaning_injective (Refused r) (Unit c m l) e = never (cc)
+meaning_injective (Refused r) (Done c m l) e = never (cc)
 meaning_injective (Refused r) (Waiting k) e = never (cc)
 meaning_injective (Refused r) (Refused s) e =
     let p : number r ≡ number s = cc in

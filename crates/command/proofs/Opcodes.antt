@@ -6,7 +6,7 @@ use mathlib.Core.List.{List}
 use Prim.Native.Nat.{ℕ, ◌<◌, ◌≤◌}
 use lib.Dec.{leb, ltb}
 use lib.ListN.{get_or}
-use borrow.Author.Tests.{ne_eqb, le-leb, lt-leb, lt-ltb, le-ltb}
+use borrow.Author.Tests.{ne_eqb, le-leb, lt-ltb}
 use Rattle.command.specs.declared.Draw.TheVariants.{Closed}
 use Rattle.command.specs.Command.{refused}
 use Rattle.command.specs.Look.{look_indexed, look_head, by_opcode, look_of}
@@ -54,9 +54,3 @@ module _ (b : List ℕ) (n : ℕ) (cp : List ℕ) where
 
   pub at_head : {op : ℕ} → Other op → 0x80 ≤ op → op < 0xC0 → look_head op b n cp ≡ by_opcode op b n cp
   at_head {op} o l h = rw (← at_other op o, le-leb 0x80 op l, lt-ltb op 0xC0 h)
-
-  pub at_low : {op : ℕ} → Other op → op < 0x80 → refused 6 ≡ by_opcode op b n cp
-  at_low {op} o l = rw (← at_other op o, lt-leb 0x80 op l)
-
-  pub at_high : {op : ℕ} → Other op → 0x80 ≤ op → 0xC0 ≤ op → refused 6 ≡ by_opcode op b n cp
-  at_high {op} o l h = rw (← at_other op o, le-leb 0x80 op l, le-ltb op 0xC0 h)

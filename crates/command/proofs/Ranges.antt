@@ -7,7 +7,7 @@ use native.Mathlib.Omega.{arith}
 use lib.Dec.{ltb, eqb}
 use lib.ListN.{get_or}
 use borrow.Author.Tests.{eqb-false}
-use Rattle.laws.proofs.Cases.{cond_both}
+use Rattle.std.proofs.lemmas.Bool.{cond_both}
 use Rattle.octets.specs.BigEndian.{big_endian}
 use Rattle.octets.proofs.Number.{Octets, big_lt}
 use Rattle.layout.specs.Answers.{refusal_of, length_of}
@@ -29,7 +29,7 @@ ranged kind fields p q = record { bp = differ kind 0x61 p; head = differ kind 0x
 
 of_whole : (n length : ℕ) (c : List ℕ) (m : ℕ) → Ranged c → Ranges (whole n length c m)
 unfolding whole
-of_whole n length c m r = cond_both Ranges (ltb n length) (λ _. tt) (λ _. r)
+of_whole n length c m r = cond_both (ltb n length) _ _ Ranges (λ _. tt) (λ _. r)
 
 -- a unit of another kind
 of_other : (n length kind : ℕ) (fields : List ℕ) (m : ℕ) → eqb kind 0x61 ≡ false → eqb kind 0x80 ≡ false
@@ -57,22 +57,22 @@ module _ (b : List ℕ) (o : Octets b) (n : ℕ) (cp : List ℕ) where
   of_opcode : (op : ℕ) → Ranges (by_opcode op b n cp)
   unfolding by_opcode look_cp look_xf look_call look_indexed
   of_opcode op =
-      cond_both Ranges (eqb op 0x00) (λ _. of_other n 1 _ _ 0 refl refl)
-      (λ _. cond_both Ranges (eqb op 0x48) (λ _. of_other n 1 _ _ 0 refl refl)
-      (λ _. cond_both Ranges (eqb op 0x44) (λ _. of_other n 1 _ _ 0 refl refl)
-      (λ _. cond_both Ranges (eqb op 0x08)
-      (λ _. cond_both Ranges (ltb n 2) (λ _. tt)
-      (λ _. cond_both Ranges (cp_accepted (get_or b 1 0)) (λ _. of_other n 6 _ _ 0 refl refl) (λ _. tt)))
-      (λ _. cond_both Ranges (eqb op 0x10)
-      (λ _. cond_both Ranges (ltb n 5) (λ _. tt)
-      (λ _. cond_both Ranges (ltb xf_count (xf_address b + xf_words b)) (λ _. tt) (λ _. of_other n _ _ _ 0 refl refl)))
-      (λ _. cond_both Ranges (is_indexed op) (λ _. of_other n 5 _ _ _ refl refl)
-      (λ _. cond_both Ranges (eqb op 0x40) (λ _. of_other n 9 _ _ 0 refl refl)
-      (λ _. cond_both Ranges (eqb op 0x61) (λ _. of_bp)
-      (λ _. cond_both Ranges (is_draw op) (λ _. of_head_lem op) (λ _. tt)))))))))
+      cond_both (eqb op 0x00) _ _ Ranges (λ _. of_other n 1 _ _ 0 refl refl)
+      (λ _. cond_both (eqb op 0x48) _ _ Ranges (λ _. of_other n 1 _ _ 0 refl refl)
+      (λ _. cond_both (eqb op 0x44) _ _ Ranges (λ _. of_other n 1 _ _ 0 refl refl)
+      (λ _. cond_both (eqb op 0x08) _ _ Ranges
+      (λ _. cond_both (ltb n 2) _ _ Ranges (λ _. tt)
+      (λ _. cond_both (cp_accepted (get_or b 1 0)) _ _ Ranges (λ _. of_other n 6 _ _ 0 refl refl) (λ _. tt)))
+      (λ _. cond_both (eqb op 0x10) _ _ Ranges
+      (λ _. cond_both (ltb n 5) _ _ Ranges (λ _. tt)
+      (λ _. cond_both (ltb xf_count (xf_address b + xf_words b)) _ _ Ranges (λ _. tt) (λ _. of_other n _ _ _ 0 refl refl)))
+      (λ _. cond_both (is_indexed op) _ _ Ranges (λ _. of_other n 5 _ _ _ refl refl)
+      (λ _. cond_both (eqb op 0x40) _ _ Ranges (λ _. of_other n 9 _ _ 0 refl refl)
+      (λ _. cond_both (eqb op 0x61) _ _ Ranges (λ _. of_bp)
+      (λ _. cond_both (is_draw op) _ _ Ranges (λ _. of_head_lem op) (λ _. tt)))))))))
 
   pub look_ranges : (draw : Draw) → Ranges (look_of b n cp draw)
   unfolding look_of look_vertex
-  look_ranges Closed = cond_both Ranges (eqb n 0) (λ _. tt) (λ _. of_opcode (get_or b 0 0))
+  look_ranges Closed = cond_both (eqb n 0) _ _ Ranges (λ _. tt) (λ _. of_opcode (get_or b 0 0))
   look_ranges (Open primitive format left) =
       of_unless (refusal_of (descriptor_of cp format)) _ (of_other n (length_of (descriptor_of cp format)) _ _ 0 refl refl)

@@ -1,11 +1,8 @@
 -- A refusal before an answer: a layout's, as the look at a draw uses it, and one of 1 to 5, as a look and a taking use it.
 use mathlib.Core.Path.{◌≡◌, refl, ap, ◌∙◌}
 use mathlib.Core.List.{List, [], ◌∷◌}
-use mathlib.Core.Bool.{cond}
-use Prim.Native.Nat.{ℕ, zero, suc, ◌-◌, ◌≤◌}
+use Prim.Native.Nat.{ℕ, zero, suc, ◌≤◌}
 use native.Mathlib.Nat.{not-suc-le-zero}
-use lib.Dec.{ltb}
-use borrow.Author.Tests.{le-ltb}
 use Rattle.refusal.specs.Number.{number}
 use Rattle.refusal.specs.declared.Reason.{Reason}
 use Rattle.refusal.proofs.Positive.{number_some}
@@ -22,11 +19,6 @@ pub unless_refused_lem : (r : Reason) (n : ℕ) (found : Found) → number r ∷
 unless_refused_lem r n found e =
     let k : number r ≡ n = cc in
     unless_some (number r) found (number_some r) ∙ ap (λ (x : ℕ). unless_refused x found) k
-
--- where the bytes that decide it are there
-pub decided_refused : (r : Reason) (count deciding n : ℕ) (found : Found) → deciding ≤ count → number r ∷ [] ≡ n ∷ []
-    → cond (ltb count deciding) (waiting (deciding - count)) (refused (number r)) ≡ unless_refused n found
-decided_refused r count deciding n found h e = rw (le-ltb count deciding h) (unless_refused_lem r n found e)
 
 pub unless_accepted : (n : ℕ) (found : Found) → 0 ∷ [] ≡ n ∷ [] → found ≡ unless_refused n found
 unless_accepted n found e =

@@ -8,7 +8,7 @@ use native.Mathlib.Omega.{arith}
 use lib.Dec.{ltb, eqb, lit<}
 use lib.ListN.{length, get_or, length-append, get_or-append}
 use borrow.Author.Tests.{ltb-true, lt-ltb, le-ltb, eq-eqb, eqb-true}
-use Rattle.laws.proofs.Cases.{tested, order, and_left, and_right, cond_both}
+use Rattle.std.proofs.lemmas.Bool.{and_parts, cases_Bool, cases_lt, cond_both}
 use Rattle.layout.specs.Answers.{refusal_of}
 use Rattle.command.specs.declared.Draw.{Draw}
 use Rattle.command.specs.declared.Draw.TheVariants.{Closed, Open}
@@ -29,7 +29,7 @@ same e = cc
 whole_waits : (n length : ℕ) (c : List ℕ) (m k : ℕ) → whole n length c m ≡ waiting k → n + k ≡ length
 unfolding whole
 whole_waits n length c m k =
-    cond_both (λ (x : Found). x ≡ waiting k → n + k ≡ length) (ltb n length)
+    cond_both (ltb n length) _ _ (λ (x : Found). x ≡ waiting k → n + k ≡ length)
     (λ t e. let h : n < length = ltb-true n length t in let z : length - n ≡ k = same e in omega arith)
     (λ _ e. absurd (unit_settled c m length k e))
 
@@ -57,7 +57,7 @@ at_five p n e =
     let few : 5 < 5 + 4 * xf_words p = omega (arith, (words_bounds p).0) in
     let rest : 5 + 4 * xf_words p - 5 ≡ 4 * xf_words p = omega arith in
     rw e
-    (cond_both (HeadRead p) (ltb xf_count (xf_address p + xf_words p)) (λ _. inl refl)
+    (cond_both (ltb xf_count (xf_address p + xf_words p)) _ _ (HeadRead p) (λ _. inl refl)
     (λ _. inr (rw (lt-ltb 5 (5 + 4 * xf_words p) few, rest))))
 
 -- from five bytes on
@@ -65,7 +65,7 @@ at_words : (p : List ℕ) (n k : ℕ) → 5 ≤ n → look_xf p n ≡ waiting k 
 unfolding look_xf
 at_words p n k h =
     rw (le-ltb n 5 h)
-    (cond_both (λ (x : Found). x ≡ waiting k → n + k ≡ 5 + 4 * xf_words p) (ltb xf_count (xf_address p + xf_words p))
+    (cond_both (ltb xf_count (xf_address p + xf_words p)) _ _ (λ (x : Found). x ≡ waiting k → n + k ≡ 5 + 4 * xf_words p)
     (λ _ e. absurd (refused_settled 8 k e))
     (λ _ e. whole_waits n (5 + 4 * xf_words p) _ 0 k e))
 
@@ -84,7 +84,7 @@ in_head op p = eqb op 0x10 && ltb (length (op ∷ p)) 5
 
 is_head : (op : ℕ) (p : List ℕ) → in_head op p ≡ true → (op ≡ 0x10) × (length (op ∷ p) < 5)
 is_head op p t =
-    (eqb-true op 0x10 (and_left (eqb op 0x10) (ltb (length (op ∷ p)) 5) t), ltb-true (length (op ∷ p)) 5 (and_right (eqb op 0x10) _ t))
+    (eqb-true op 0x10 (and_parts (eqb op 0x10) (ltb (length (op ∷ p)) 5) t).0, ltb-true (length (op ∷ p)) 5 (and_parts (eqb op 0x10) _ t).1)
 
 -- the rest of the unit is asked for past the opcode and past an XF load's head
 not_heads : (draw : Draw) (p : List ℕ) → stage_of draw p ≡ 3 → Heads p (length p) draw → ⊥
@@ -101,14 +101,14 @@ head_first (op ∷ p) cp e =
     ⊎_elim
     (λ t. let h = is_head op p t in sym (at_xf (op ∷ p) _ cp h.0 (omega arith)) ∙ xf_first (op ∷ p) _ h.1)
     (λ f. let z : ◌≡◌ {A = ℕ} 3 2 = rw f at e in absurd (omega (arith, z)))
-    (tested (in_head op p))
+    (cases_Bool (in_head op p))
 
 -- with just the bytes that are lacking what waits again is at a later stage
 waits_later : (p q cp : List ℕ) (draw : Draw) (k j : ℕ) → look_all p cp draw ≡ waiting k → length q ≡ k
     → look_all (p ++ q) cp draw ≡ waiting j → stage_of draw p < stage_of draw (p ++ q)
 waits_later p q cp (Open primitive format left) k j e l f = absurd (look_just p q cp (Open primitive format left) k e l (λ h. h) j f)
 waits_later [] [] cp Closed k j e l f = let b = look_lacking [] cp Closed k e in absurd (omega (arith, b.0, l))
-waits_later [] (op ∷ q) cp Closed k j e l f = cond_both (λ (n : ℕ). 1 < n) (in_head op q) (λ _. lit< tt) (λ _. lit< tt)
+waits_later [] (op ∷ q) cp Closed k j e l f = cond_both (in_head op q) _ _ (λ (n : ℕ). 1 < n) (λ _. lit< tt) (λ _. lit< tt)
 waits_later (op ∷ p) q cp Closed k j e l f =
     ⊎_elim
     (λ t.
@@ -118,7 +118,7 @@ waits_later (op ∷ p) q cp Closed k j e l f =
     let past : 5 ≤ length (op ∷ p ++ q) = omega arith in
     rw (t, eq-eqb op 0x10 h.0, le-ltb (length (op ∷ p ++ q)) 5 past) (lit< tt))
     (λ t. absurd (look_just (op ∷ p) q cp Closed k e l (not_heads Closed (op ∷ p) (rw t)) j f))
-    (tested (in_head op p))
+    (cases_Bool (in_head op p))
 
 -- with just the rest of the unit nothing waits
 rest_settles : (p q cp : List ℕ) (draw : Draw) (k : ℕ) → look_all p cp draw ≡ waiting k → length q ≡ k → stage_of draw p ≡ 3
@@ -137,7 +137,7 @@ module _ (p b : List ℕ) (n n' : ℕ) (more : n ≤ n') (begins : (i : ℕ) →
   more_than =
       ⊎_elim (λ h. h)
       (λ h. absurd (unit_settled c m l k (sym ((look_extends p b n n' more begins cp draw).alone c m l is h ∙ is) ∙ waits)))
-      (order n l)
+      (cases_lt n l)
 
   -- not fewer than are lacking
   not_fewer : l < n + k → ⊥
@@ -149,7 +149,8 @@ module _ (p b : List ℕ) (n n' : ℕ) (more : n ≤ n') (begins : (i : ℕ) →
   -- not more
   not_more : n + k < l → ⊥
   not_more h =
-      let settled : Settled (look_of b (n + k) cp draw) = (look_extends p b n (n + k) (omega arith) begins cp draw).just k waits refl past in
+      let settled : Settled (look_of b (n + k) cp draw) =
+      (look_extends p b n (n + k) (omega arith) begins cp draw).just k waits refl past in
       let all : look_of b (n + k) cp draw ≡ unit c m l =
       (look_extends b b (n + k) n' (omega (arith, there.1.0)) (λ _ _. refl) cp draw).keeps settled ∙ is in
       let few : Fair (n + k) (unit c m l) = subst (Fair (n + k)) all (look_fair b (n + k) cp draw) in
@@ -157,8 +158,8 @@ module _ (p b : List ℕ) (n n' : ℕ) (more : n ≤ n') (begins : (i : ℕ) →
 
   rest_is : l ≡ n + k
   rest_is =
-      ⊎_elim (λ h. absurd (not_fewer h)) (λ h. ⊎_elim (λ g. absurd (not_more g)) (λ g. omega (arith, g, h)) (order (n + k) l))
-      (order l (n + k))
+      ⊎_elim (λ h. absurd (not_fewer h)) (λ h. ⊎_elim (λ g. absurd (not_more g)) (λ g. omega (arith, g, h)) (cases_lt (n + k) l))
+      (cases_lt l (n + k))
 
 unit_rest : (p q cp : List ℕ) (draw : Draw) (k : ℕ) → look_all p cp draw ≡ waiting k → stage_of draw p ≡ 3
     → (c : List ℕ) (m l : ℕ) → look_all (p ++ q) cp draw ≡ unit c m l → l ≡ length p + k

@@ -6,8 +6,8 @@ use Rattle.refusal.specs.Number.{number}
 use Rattle.command.specs.declared.Command.{Command}
 use Rattle.command.specs.declared.Command.TheVariants.{NoOperation, InvalidateCache, Metrics, LoadCp, LoadXf, LoadIndexed}
 use Rattle.command.specs.declared.Command.TheVariants.{CallList, LoadBp, DrawHead, Vertex}
-use Rattle.command.specs.declared.Next.{Next}
-use Rattle.command.specs.declared.Next.TheVariants.{Unit, Waiting, Refused}
+use Rattle.command.specs.declared.StepAnswer.{StepAnswer}
+use Rattle.command.specs.declared.StepAnswer.TheVariants.{Done, Waiting, Refused}
 
 -- ---- each command of "Units of the stream"
 
@@ -70,7 +70,7 @@ pub data Found : Type 0 where
   waiting : ℕ → Found
   refused : ℕ → Found
 
-abbrev pub meaning : Next → Found
-meaning (Unit command memory length) = unit (numbers_of command) memory length
+abbrev pub meaning : StepAnswer → Found
+meaning (Done command memory length) = unit (numbers_of command) memory length
 meaning (Waiting lacking) = waiting lacking
 meaning (Refused reason) = refused (number reason)

@@ -45,7 +45,8 @@ pub record WaitingPromises : Type 0 where
   pub fewer : (p q cp : List ℕ) (draw : Draw) (k : ℕ) → look_all p cp draw ≡ waiting k → length q < k → NoUnit (look_all (p ++ q) cp draw)
   -- with just that many it is a unit or a refusal, or it waits again, for a later one of these: 1 the opcode, 2 the rest of an XF load's
   -- head, 3 the rest of the unit
-  pub next : (p q cp : List ℕ) (draw : Draw) (k j : ℕ) → look_all p cp draw ≡ waiting k → length q ≡ k → look_all (p ++ q) cp draw ≡ waiting j
+  pub next : (p q cp : List ℕ) (draw : Draw) (k j : ℕ) → look_all p cp draw ≡ waiting k → length q ≡ k
+      → look_all (p ++ q) cp draw ≡ waiting j
       → stage_of draw p < stage_of draw (p ++ q)
   -- with just the rest of the unit it is a unit or a refusal
   pub last : (p q cp : List ℕ) (draw : Draw) (k : ℕ) → look_all p cp draw ≡ waiting k → length q ≡ k → stage_of draw p ≡ 3

@@ -44,6 +44,7 @@ pub enum Command {
 }
 
 // "An open draw or none": what an open one has left.
+// No Option of a struct: both states have names, by which every promise speaks of them.
 #[derive(Clone, Copy)]
 pub enum Draw {
     Closed,
@@ -54,11 +55,13 @@ pub enum Draw {
     },
 }
 
-// What the stream goes on with.
+// "step answer enum whose done case holds the command enum and whose refused case holds the reason enum": what the stream goes on with, and
+// what a look and a taking answer.
 #[derive(Clone, Copy)]
-pub enum Next {
-    // A whole unit, with the memory address that an indexed load reports (0 for every other command) and its bytes.
-    Unit {
+pub enum StepAnswer {
+    // A whole unit, told by a look and done by a taking: its command, the memory address that an indexed load reports (0 for every other
+    // command), and its bytes.
+    Done {
         command: Command,
         memory: u32,
         length: u32,

@@ -4,17 +4,18 @@ ghost use Rattle.std.specs.Prelude.{◌≡◌, ◌<◌};
 ghost use Rattle.command.specs.Command.{numbers_of, meaning};
 ghost use Rattle.command.specs.Look.{whole, look_cp, look_xf, look_indexed, look_call, look_bp, memory_of};
 
-use crate::{Command, Next};
+use crate::{Command, StepAnswer};
 use refusal::Reason;
 
 // A unit of so many bytes: it waits for those that it lacks.
-pub fn unit(count: u32, length: u32, command: Command, memory: u32) -> Next
+#[tactic(auto, unfolding(crate::specs::Look::whole))]
+pub fn unit(count: u32, length: u32, command: Command, memory: u32) -> StepAnswer
     ensures { meaning result ≡ whole count length (numbers_of command) memory }
 {
     if count < length {
-        return Next::Waiting(length - count);
+        return StepAnswer::Waiting(length - count);
     }
-    Next::Unit {
+    StepAnswer::Done {
         command,
         memory,
         length,
@@ -22,31 +23,33 @@ pub fn unit(count: u32, length: u32, command: Command, memory: u32) -> Next
 }
 
 // 08.
-pub fn look_cp(b: [u8; 9], count: u32) -> Next
+#[tactic(auto, unfolding(crate::specs::Look::look_cp, octets::specs::BigEndian::big_endian))]
+pub fn look_cp(b: [u8; 9], count: u32) -> StepAnswer
     ensures { meaning result ≡ look_cp b count }
 {
     if count < 2 {
-        return Next::Waiting(6 - count);
+        return StepAnswer::Waiting(6 - count);
     }
     let address = b[1];
     if places::cp_accepted(address) {
         let number = octets::word(b[2], b[3], b[4], b[5]);
         return unit(count, 6, Command::LoadCp { address, number }, 0);
     }
-    Next::Refused(Reason::UnknownCpAddress)
+    StepAnswer::Refused(Reason::UnknownCpAddress)
 }
 
 // 10.
-pub fn look_xf(b: [u8; 9], count: u32) -> Next
+#[tactic(auto, unfolding(crate::specs::Look::look_xf, crate::specs::Look::xf_words, crate::specs::Look::xf_address, octets::specs::BigEndian::big_endian))]
+pub fn look_xf(b: [u8; 9], count: u32) -> StepAnswer
     ensures { meaning result ≡ look_xf b count }
 {
     if count < 5 {
-        return Next::Waiting(5 - count);
+        return StepAnswer::Waiting(5 - count);
     }
     let words = octets::half(b[1], b[2]) % 16 + 1;
     let address = octets::half(b[3], b[4]);
     if places::XF_COUNT < address as u32 + words as u32 {
-        return Next::Refused(Reason::XfLoadPastEnd);
+        return StepAnswer::Refused(Reason::XfLoadPastEnd);
     }
     let command = Command::LoadXf {
         words: words as u8,
@@ -56,6 +59,7 @@ pub fn look_xf(b: [u8; 9], count: u32) -> Next
 }
 
 // The main-memory address of an element of an array.
+#[tactic(auto, unfolding(crate::specs::Look::memory_of))]
 fn memory(cp: &[u32; 60], array: u8, index: u16) -> u32
     requires { array < 16 }
     ensures { result ≡ memory_of cp.now array index }
@@ -66,7 +70,8 @@ fn memory(cp: &[u32; 60], array: u8, index: u16) -> u32
 }
 
 // 20, 28, 30, 38.
-pub fn look_indexed(op: u8, b: [u8; 9], count: u32, cp: &[u32; 60]) -> Next
+#[tactic(auto, unfolding(crate::specs::Look::look_indexed, octets::specs::BigEndian::big_endian))]
+pub fn look_indexed(op: u8, b: [u8; 9], count: u32, cp: &[u32; 60]) -> StepAnswer
     ensures { meaning result ≡ look_indexed op b count cp.now }
 {
     let array = 12 + op / 8 % 4;
@@ -82,7 +87,8 @@ pub fn look_indexed(op: u8, b: [u8; 9], count: u32, cp: &[u32; 60]) -> Next
 }
 
 // 40.
-pub fn look_call(b: [u8; 9], count: u32) -> Next
+#[tactic(auto, unfolding(crate::specs::Look::look_call, octets::specs::BigEndian::big_endian))]
+pub fn look_call(b: [u8; 9], count: u32) -> StepAnswer
     ensures { meaning result ≡ look_call b count }
 {
     let address = octets::word(b[1], b[2], b[3], b[4]);
@@ -91,7 +97,8 @@ pub fn look_call(b: [u8; 9], count: u32) -> Next
 }
 
 // 61.
-pub fn look_bp(b: [u8; 9], count: u32) -> Next
+#[tactic(auto, unfolding(crate::specs::Look::look_bp, octets::specs::BigEndian::big_endian))]
+pub fn look_bp(b: [u8; 9], count: u32) -> StepAnswer
     ensures { meaning result ≡ look_bp b count }
 {
     let register = b[1];

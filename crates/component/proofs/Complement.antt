@@ -1,38 +1,32 @@
--- A signed number out of its pattern, once for every number of patterns.
-use mathlib.Core.Path.{◌≡◌, sym, ap, ◌∙◌, subst}
+-- A signed number out of its pattern: what a cast of the pattern to the signed type of its width gives.
+use mathlib.Core.Path.{◌≡◌, ap, ◌∙◌}
 use mathlib.Core.Bool.{Bool, true, false, cond}
-use Prim.Native.Nat.{ℕ, zero, suc, ◌-◌, ◌*◌, ◌^◌, ◌<◌, ◌≤◌}
+use mathlib.Core.Logic.{⊎_elim}
+use Prim.Native.Nat.{ℕ, suc, ◌-◌, ◌*◌, ◌^◌, ◌<◌, ◌≤◌}
 use native.Mathlib.Omega.{arith}
 use lib.Dec.{ltb}
-use lib.IntN.{ℤ, pos, negsuc, ◌-ℤ◌}
-use mir.Syntax.{Width}
-use mir.Val.{SFits, to_z, hbits}
-use mir.ValLaws.{to_z_pos}
+use lib.IntN.{ℤ, pos, negsuc}
+use mir.Syntax.{Width, w8, w16, w32}
+use mir.Val.{SFits, to_z, of_z, hbits}
+use mir.ValLaws.{to_z-of_z}
 use borrow.Author.Tests.{lt-ltb, le-ltb}
-use borrow.Author.Rules.{sfits_of}
+use Rattle.std.proofs.lemmas.Bool.{cases_lt}
 use Rattle.component.specs.Single as S
 use Rattle.component.specs.Component.{signed_of, number_of}
 
--- p - m, of a p below m
-less : (p m : ℕ) → p < m → pos p -ℤ pos m ≡ negsuc (m - suc p)
-less p zero h = absurd (omega arith)
-less p (suc m) h = ap (λ (t : Bool). cond t (negsuc (suc m - suc p)) (pos (p - suc m))) (lt-ltb p (suc m) h)
+pub signed8 : (n : ℕ) → to_z w8 n ≡ signed_of 256 n
+signed8 n =
+    ⊎_elim (λ l. let t : 2 * n < 256 = omega arith in rw (lt-ltb n 128 l, lt-ltb (2 * n) 256 t))
+    (λ g. let t : 256 ≤ 2 * n = omega arith in rw (le-ltb n 128 g, le-ltb (2 * n) 256 t)) (cases_lt n 128)
 
-module _ (w : Width) (p m : ℕ) (wide-p : p < 2 ^ hbits w) (wide-m : m < 2 ^ hbits w) (below : p < m) where
-  -- the code's difference
-  pub difference : to_z w p -ℤ to_z w m ≡ negsuc (m - suc p)
-  difference =
-      ap (λ (z : ℤ). z -ℤ to_z w m) (to_z_pos w p wide-p) ∙ ap (λ (z : ℤ). pos p -ℤ z) (to_z_pos w m wide-m) ∙ less p m below
+pub signed16 : (n : ℕ) → to_z w16 n ≡ signed_of 65536 n
+signed16 n =
+    ⊎_elim (λ l. let t : 2 * n < 65536 = omega arith in rw (lt-ltb n 32768 l, lt-ltb (2 * n) 65536 t))
+    (λ g. let t : 65536 ≤ 2 * n = omega arith in rw (le-ltb n 32768 g, le-ltb (2 * n) 65536 t)) (cases_lt n 32768)
 
-  pub difference_fits : (v : Width) → m - suc p < 2 ^ hbits v → SFits v (to_z w p -ℤ to_z w m)
-  difference_fits v k = subst (λ (z : ℤ). SFits v z) (sym difference) (sfits_of k)
-
--- which is what the pattern stands for from the half on
-pub upper : (m p : ℕ) → m ≤ 2 * p → signed_of m p ≡ negsuc (m - suc p)
-upper m p l = ap (λ (t : Bool). cond t (pos p) (negsuc (m - suc p))) (le-ltb (2 * p) m l)
-
-pub lower : (m p : ℕ) → 2 * p < m → signed_of m p ≡ pos p
-lower m p l = ap (λ (t : Bool). cond t (pos p) (negsuc (m - suc p))) (lt-ltb (2 * p) m l)
+-- a number of a signed width, in 32 bits
+pub widened : (w : Width) (y z : ℤ) → SFits w y → SFits w32 y → z ≡ to_z w (of_z w y) → to_z w32 (of_z w32 z) ≡ y
+widened w y z f g e = ap (λ (x : ℤ). to_z w32 (of_z w32 x)) (e ∙ to_z-of_z w y f) ∙ to_z-of_z w32 y g
 
 -- a number that fits a signed width
 pub size_lt : (z : ℤ) (w : Width) → SFits w z → S.size z ≤ 2 ^ hbits w

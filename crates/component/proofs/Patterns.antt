@@ -4,10 +4,6 @@ use mathlib.Core.Bool.{Bool, not}
 use Prim.Native.Nat.{ℕ, zero, suc, ◌%◌, ◌^◌, ◌<◌, ◌≤◌}
 use native.Mathlib.Nat.{mod-lt, lt_of_le_of_lt, mod-eq_of_lt}
 use native.Mathlib.Omega.{arith}
-use lib.IntN.{ℤ}
-use mir.Syntax.{w16}
-use mir.Val.{SFits, to_z, of_z}
-use mir.ValLaws.{to_z-of_z}
 use lib.Dec.{T, eqb, lit<}
 use lib.Ieee.{Float, nan, inf, fin, binary32, is_nan, of_bits, to_bits, nan_bits}
 use lib.Ieee.Bits.{nan_bits_is, to_bits-of_bits}
@@ -75,11 +71,6 @@ decoded f raw s {r} e = record {
 pub of_integer : (f raw s : ℕ) {r : Float} (k : ℕ) → f ≡ k → k < 4 → Quotient (integer_of k raw) (s % 32) r → Decoded f raw s r
 of_integer f raw s {r} k e l h =
     subst (λ (x : ℕ). Decoded x raw s r) (sym e) (decoded k raw s (h.is ∙ sym (component_integer k raw s l)))
-
--- the same from a signed number of 16 bits, as the code holds it
-pub of_signed : (f raw s : ℕ) {r : Float} (k : ℕ) (z : ℤ) → f ≡ k → k < 4 → SFits w16 z → z ≡ integer_of k raw
-    → Quotient (to_z w16 (of_z w16 z)) (s % 32) r → Decoded f raw s r
-of_signed f raw s {r} k z e l fit p h = of_integer f raw s k e l (subst (λ (x : ℤ). Quotient x (s % 32) r) (to_z-of_z w16 z fit ∙ p) h)
 
 -- a component in f32, of a raw number of 32 bits
 pub of_single : (f raw s : ℕ) {r : Float} → 4 ≤ f → raw < 4294967296 → r ≡ of_bits binary32 raw → Decoded f raw s r

@@ -1,81 +1,48 @@
 // One component of a vertex attribute, as an exact single: document 01, "Vertex layout".
+// A format is its number: both functions take every number, as their promises do, and those above 4 count as f32.
 #![tactic(auto)]
 
-ghost use Rattle.std.specs.Prelude.{◌≡◌, ◌%◌, ◌<◌, ◌≤◌, pos};
-ghost use Rattle.std.specs.Float.{binary32};
-ghost use Rattle.std.specs.Float.Ieee.{of_bits};
-ghost use Rattle.component.specs.Component.{width_of, signed_of, two_to, Quotient, Decoded};
+ghost use Rattle.std.specs.Prelude.{◌≡◌, ◌%◌, ◌≤◌};
+ghost use Rattle.component.specs.Single.{size};
+ghost use Rattle.component.specs.Component.{width_of, two_to, Quotient, Decoded};
+
+use std::num::f32_from_bits_with_nan;
 
 // The bytes of a component: formats 0 to 4 have 1, 1, 2, 2, 4, and all above count as f32.
 pub fn width(format: u32) -> u32
     ensures { result ≡ width_of format }
 {
     match format {
-        0 => 1,
-        1 => 1,
-        2 => 2,
-        3 => 2,
+        0 | 1 => 1,
+        2 | 3 => 2,
         _ => 4,
     }
 }
 
-// 2 to the power of minus s.
-fn power(s: u32) -> f32
-    requires { s < 32 }
-    ensures { result ≡ two_to s }
+// 2 to the power of minus a shift, which counts modulo 32.
+fn power(shift: u32) -> f32
+    ensures { result ≡ two_to (shift % 32) }
 {
-    f32::from_bits((127 - s) * 8388608)
+    f32::from_bits((127 - shift % 32) * 0x80_0000)
 }
 
-// n / 2^s, of an unsigned n.
-fn unsigned(n: u16, s: u32) -> f32
-    requires { s < 32 }
-    ensures { Quotient (pos n) s result }
+// n over 2 to the power of a shift, of an integer of 16 bits, signed or not.
+fn quotient(n: i32, shift: u32) -> f32
+    requires { size n ≤ 65536 }
+    ensures { Quotient n (shift % 32) result }
 {
-    (n as f32) * power(s)
-}
-
-// z / 2^s, of a signed z.
-fn signed(z: i16, s: u32) -> f32
-    requires { s < 32 }
-    ensures { Quotient z s result }
-{
-    (z as f32) * power(s)
-}
-
-// The signed number of a pattern, one of `patterns`.
-fn twos(pattern: u32, patterns: u32) -> i16
-    requires { (pattern < patterns) × (patterns ≤ 65536) }
-    ensures { result ≡ signed_of patterns pattern }
-{
-    if 2 * pattern < patterns {
-        pattern as i16
-    } else {
-        (pattern as i32 - patterns as i32) as i16
-    }
-}
-
-// The single whose pattern is b, and a NaN for each pattern of one.
-fn of_bits(b: u32) -> f32
-    ensures { result ≡ of_bits binary32 b }
-{
-    if b % 2147483648 > 2139095040 {
-        0.0 / 0.0
-    } else {
-        f32::from_bits(b)
-    }
+    n as f32 * power(shift)
 }
 
 // The component that the low bytes of a raw number stand for, at a shift modulo 32.
 pub fn decode_component(format: u32, raw: u32, shift: u32) -> f32
     ensures { Decoded format raw shift result }
 {
-    let s = shift % 32;
     match format {
-        0 => unsigned((raw % 256) as u16, s),
-        1 => signed(twos(raw % 256, 256), s),
-        2 => unsigned((raw % 65536) as u16, s),
-        3 => signed(twos(raw % 65536, 65536), s),
-        _ => of_bits(raw),
+        0 => quotient((raw % 0x100) as i32, shift),
+        1 => quotient(i32::from(((raw % 0x100) as u8).cast_signed()), shift),
+        2 => quotient((raw % 0x1_0000) as i32, shift),
+        3 => quotient(i32::from(((raw % 0x1_0000) as u16).cast_signed()), shift),
+        _ => f32_from_bits_with_nan(raw),
     }
 }

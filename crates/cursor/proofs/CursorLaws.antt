@@ -10,8 +10,8 @@ use lib.Dec.{leb, ltb}
 use lib.ListN.{length, get_or, take, drop, length-drop}
 use lib.Seq.{ext_get_or, length-take-le, get_or-take, get_or-drop}
 use borrow.Author.Tests.{leb-true, ltb-true, ltb-false, lt-ltb, le-ltb}
+use Rattle.std.proofs.lemmas.Bool.{and_parts}
 use Rattle.laws.specs.Values.{up_to}
-use Rattle.laws.proofs.Cases.{and_left, and_right}
 use Rattle.laws.proofs.Remainder.{mod_two}
 use Rattle.laws.proofs.Filled.{length_up_to, get_d_up_to}
 use Rattle.laws.proofs.Front.{up_to_ext}
@@ -35,8 +35,8 @@ pub straight_true : (c : Cursor) (n : ℕ) → straight_by c n ≡ true → Stra
 unfolding straight_by
 straight_true c n e =
     record {
-      there = leb-true _ _ (and_left (leb n c.left) (leb n (c.size - c.at)) e);
-      within = leb-true _ _ (and_right (leb n c.left) (leb n (c.size - c.at)) e);
+      there = leb-true _ _ (and_parts (leb n c.left) (leb n (c.size - c.at)) e).0;
+      within = leb-true _ _ (and_parts (leb n c.left) (leb n (c.size - c.at)) e).1;
     }
 
 pub straight_byte : (c : Cursor) (ring : List ℕ) {n : ℕ} → Straight c n → (k : ℕ) → k < n → byte_of c ring k ≡ get_or ring (c.at + k) 0

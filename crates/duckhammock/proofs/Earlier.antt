@@ -117,7 +117,8 @@ long_stream_in_parts words xf stream out count r out' count' other xf₀ told s 
     (or_zero _ _ (sym p.answer_is ∙ z)).0 in
     let front = put_front _ (head_bytes (cp_of words) (bp_of words) xf (length stream)) out count r out' count' p z in
     let file : take count' out' ++ stream ≡ file_bytes (recording_of (cp_of words) (bp_of words) xf stream) =
-    ap (λ (l : List ℕ). l ++ stream) front ∙ sym (recording_promises.head_then_stream (recording_of (cp_of words) (bp_of words) xf stream)) in
+    ap (λ (l : List ℕ). l ++ stream) front
+    ∙ sym (recording_promises.head_then_stream (recording_of (cp_of words) (bp_of words) xf stream)) in
     left_alone other (take count' out' ++ stream) xf₀ told s words' xf' told'
     (subst (LongStream earlier_limit) (sym file) (refused words xf stream long fit fit-xf content over)) n h
 

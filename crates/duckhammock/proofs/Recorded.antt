@@ -10,7 +10,7 @@ use lib.Dec.{eqb, lit<}
 use lib.ListN.{length, take, drop, length-take, length-drop}
 use lib.Seq.{drop_at, get_or-take, get_or-drop, take-append_seam}
 use borrow.Author.Tests.{eq-eqb, lt-ltb, le-ltb}
-use Rattle.laws.proofs.Cases.{order}
+use Rattle.std.proofs.lemmas.Bool.{cases_lt}
 use Rattle.laws.specs.Values.{up_to}
 use Rattle.laws.proofs.Filled.{length_up_to}
 use Rattle.refusal.specs.Number.{or_else}
@@ -168,7 +168,7 @@ more_room : (limit : ℕ) (c : Recording) (room more : ℕ) → room ≤ more �
 unfolding record_refusal
 more_room limit c room more h e =
     let p = or_zero (content_refusal limit c.cp c.bp (length c.xf) (length c.stream)) _ e in
-    elim (order room (stream_at + length c.stream)) [
+    elim (cases_lt room (stream_at + length c.stream)) [
       | inl l ↦ absurd (omega (arith, rw (lt-ltb room (stream_at + length c.stream) l) at p.1))
       | inr l ↦ rw (p.0, le-ltb more (stream_at + length c.stream) (omega arith))
     ]
@@ -187,7 +187,8 @@ read_written words file xf told r words' xf' told' out count s out' count' o h z
     ap file_bytes held ∙ recording_promises.rewrites stream_limit file o clear in
     let taken : s ≡ 0 =
     p.answer_is ∙ ap (λ (c : Recording). writer_answer stream_limit c (length out)) held
-    ∙ more_room stream_limit (content_of file) (length file) (length out) room (recording_promises.writable stream_limit file o clear).1 in (
+    ∙ more_room stream_limit (content_of file) (length file) (length out) room
+    (recording_promises.writable stream_limit file o clear).1 in (
       taken,
       (rw taken at p.count_is) ∙ ap (λ (l : List ℕ). length l) bytes,
       (rw taken at p.out_is) ∙ ap (λ (l : List ℕ). placed l out) bytes,

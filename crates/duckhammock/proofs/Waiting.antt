@@ -25,7 +25,8 @@ waits_told ring s (waiting k) lacking f e = refl
 waits_told ring s (refused r) lacking f e = absurd (omega (arith, step_refuses ring s r f, e))
 
 look_lacks : (ring words xf vertex unit : List ℕ) (lacking r : ℕ) (unit' : List ℕ) (lacking' : ℕ)
-    → Looks ring (state_at words xf vertex) unit lacking r unit' lacking' → r ≡ 255 → (1 ≤ lacking') × (lacking' ≤ room_of (window_of words))
+    → Looks ring (state_at words xf vertex) unit lacking r unit' lacking' → r ≡ 255
+    → (1 ≤ lacking') × (lacking' ≤ room_of (window_of words))
 unfolding fifo_of
 look_lacks ring words xf vertex told lacking r told' lacking' h e =
     let s : State = state_at words xf vertex in

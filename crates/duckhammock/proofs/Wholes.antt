@@ -32,7 +32,8 @@ module _ (d : Descriptor) (k : ℕ) (vertex values : List ℕ) (r : ℕ) (values
       let whole : values' ≡ whole_to d vertex 21 = t.values_are ∙ ap (λ (n : ℕ). cond (eqb n 0) (whole_to d vertex 21) values) z in
       let told : one' ≡ padded 10 (attribute_list d k vertex (offset_of d k)) =
       a.values_are
-      ∙ ap (λ (n : ℕ). cond (eqb n 0) (padded 10 (drop 1 (unless (refusal_at d k vertex) (attribute_list d k vertex (offset_of d k))))) one) y
+      ∙ ap (λ (n : ℕ). cond (eqb n 0)
+      (padded 10 (drop 1 (unless (refusal_at d k vertex) (attribute_list d k vertex (offset_of d k))))) one) y
       ∙ ap (λ (n : ℕ). padded 10 (drop 1 (unless n (attribute_list d k vertex (offset_of d k))))) x in
       ap (λ (l : List ℕ). take 10 (drop (10 * k) l)) whole ∙ part_of_whole d vertex k 21 h ∙ sym told
 

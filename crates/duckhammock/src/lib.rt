@@ -1,6 +1,5 @@
-// The library's calls on numbers and slices under their names in C, for `duckhammock_c`, which exports them to C and Rust, and for the
-// programs `show` and `record`. `include/duckhammock.h` says them in C's words; the crates `access`, `stepping`, `runner`, `formats`,
-// `patching` and `filing` do them.
+// The library's calls on numbers and slices under their names in C, for `duckhammock_c`, which exports them to C and Rust.
+// `include/duckhammock.h` says them in C's words; the crates `access`, `stepping`, `runner`, `formats`, `patching` and `filing` do them.
 //
 // The state is 327 words that the caller keeps (`words`, specs/State.antt). The number returned is 0 where the call was accepted, a unit
 // is told or was done or the limit was reached, 255 for waiting, and else the refusal's number. A refused or waiting call changes nothing

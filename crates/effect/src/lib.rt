@@ -15,6 +15,7 @@ fn chosen(test: bool, yes: u32, no: u32) -> u32
 }
 
 // What a CP register keeps of a number.
+#[tactic(auto, unfolding(crate::specs::Effect::kept_of))]
 fn kept(address: u8, number: u32) -> u32
     ensures { result ≡ kept_of address number }
 {
@@ -25,18 +26,19 @@ fn kept(address: u8, number: u32) -> u32
 }
 
 // A CP load.
+#[tactic(auto, unfolding(crate::specs::Effect::loaded_cp))]
 pub fn load_cp(cp: &mut [u32; 60], address: u8, number: u32)
     ensures { cp.new ≡ loaded_cp cp.old address number }
 {
-    let at = places::cp_place(address);
     let new = kept(address, number);
-    if at < places::COUNT {
+    if let Some(at) = places::cp_place(address) {
         cp[at] = new;
     }
 }
 
 // Of the low 24 bits: old outside the mask, number inside. Nothing is reduced: a higher bit is set where the mask and either of the two
 // have it.
+#[tactic(auto, unfolding(crate::specs::Effect::masked))]
 pub fn replace_bits(old: u32, mask: u32, number: u32) -> u32
     ensures { result ≡ masked old mask number }
 {
@@ -44,22 +46,25 @@ pub fn replace_bits(old: u32, mask: u32, number: u32) -> u32
 }
 
 // The number of a register, 0 where there is none.
+// 0 where there is none: so `stored_bp` has it, for lent words of any number.
 fn held(bp: &[u32], at: usize) -> u32
     ensures { result ≡ get_or bp.now at 0 }
 {
-    if at < bp.len() { bp[at] } else { 0 }
+    bp.get(at).copied().unwrap_or(0)
 }
 
 // Stores the number of a register, nothing where there is none.
 fn hold(bp: &mut [u32], at: usize, number: u32)
     ensures { bp.new ≡ set bp.old at number }
 {
+    // By index: after `get_mut` a proof knows the length of the registers alone.
     if at < bp.len() {
         bp[at] = number;
     }
 }
 
 // A BP load, by the mask in register FE, which it then sets to FFFFFF unless it was a load of FE.
+#[tactic(auto, unfolding(crate::specs::Effect::loaded_bp, crate::specs::Effect::stored_bp))]
 pub fn load_bp(bp: &mut [u32], register: u8, number: u32)
     ensures { bp.new ≡ loaded_bp bp.old register number }
 {
@@ -71,6 +76,7 @@ pub fn load_bp(bp: &mut [u32], register: u8, number: u32)
 }
 
 // A vertex: its bytes to the front of the buffer, nothing where that is too short.
+#[tactic(auto, unfolding(crate::specs::Effect::copied))]
 pub fn copy_vertex(buffer: &mut [u8], bytes: &[u8])
     ensures { buffer.new ≡ copied bytes.now buffer.old }
 {
@@ -83,13 +89,13 @@ pub fn copy_vertex(buffer: &mut [u8], bytes: &[u8])
 pub fn draw_of(primitive: u8, format: u8, count: u16) -> Draw
     ensures { result ≡ opened_by primitive format count }
 {
-    if count == 0 {
-        return Draw::Closed;
-    }
-    Draw::Open {
-        primitive,
-        format,
-        left: count,
+    match count {
+        0 => Draw::Closed,
+        left => Draw::Open {
+            primitive,
+            format,
+            left,
+        },
     }
 }
 
@@ -103,16 +109,12 @@ fn counted_down(draw: Draw) -> Draw
             primitive,
             format,
             left,
-        } => {
-            if left == 0 {
-                return Draw::Closed;
-            }
-            draw_of(primitive, format, left - 1)
-        }
+        } => draw_of(primitive, format, left.saturating_sub(1)),
     }
 }
 
 // The open draw after a command: a head opens one, a vertex counts it down, every other command leaves it.
+#[tactic(auto, unfolding(crate::specs::Effect::draw_after))]
 pub fn next_draw(command: Command, draw: Draw) -> Draw
     ensures { result ≡ draw_after (numbers_of command) draw }
 {
@@ -123,13 +125,6 @@ pub fn next_draw(command: Command, draw: Draw) -> Draw
             count,
         } => draw_of(primitive, format, count),
         Command::Vertex => counted_down(draw),
-        Command::NoOperation => draw,
-        Command::InvalidateCache => draw,
-        Command::Metrics => draw,
-        Command::LoadCp { .. } => draw,
-        Command::LoadXf { .. } => draw,
-        Command::LoadIndexed { .. } => draw,
-        Command::CallList { .. } => draw,
-        Command::LoadBp { .. } => draw,
+        _ => draw,
     }
 }

@@ -8,7 +8,7 @@ use native.Mathlib.Omega.{arith}
 use lib.Dec.{ltb, eqb}
 use lib.ListN.{get_or, take}
 use borrow.Author.Tests.{lt-ltb}
-use Rattle.laws.proofs.Cases.{cond_both, order}
+use Rattle.std.proofs.lemmas.Bool.{cases_lt, cond_both}
 use Rattle.octets.specs.BigEndian.{big_endian}
 use Rattle.octets.proofs.Number.{Octets, big_lt}
 use Rattle.layout.specs.Answers.{refusal_of}
@@ -26,7 +26,7 @@ use Rattle.encoding.specs.Named.{indexed_named, command_by, command_named}
 use Rattle.encoding.specs.Promises.{Tellable, EncodingPromises}
 
 among : (a : ℕ) → 12 ≤ a → a ≤ 15 → (a ≡ 12) ⊎ ((a ≡ 13) ⊎ ((a ≡ 14) ⊎ (a ≡ 15)))
-among a l h = by_first (order a 13) (order a 14) (order a 15)
+among a l h = by_first (cases_lt a 13) (cases_lt a 14) (cases_lt a 15)
   where
     by_first : (a < 13) ⊎ (13 ≤ a) → (a < 14) ⊎ (14 ≤ a) → (a < 15) ⊎ (15 ≤ a) → (a ≡ 12) ⊎ ((a ≡ 13) ⊎ ((a ≡ 14) ⊎ (a ≡ 15)))
     by_first (inl p) q r = inl (omega arith)
@@ -85,7 +85,7 @@ Again (refused r) = Unit {0}
 
 of_whole : (n length m : ℕ) (x : Command) → Tellable x → Again (whole n length (numbers_of x) m)
 unfolding whole
-of_whole n length m x h = cond_both Again (ltb n length) (λ _. tt) (λ _. unit_again x m length h)
+of_whole n length m x h = cond_both (ltb n length) _ _ Again (λ _. tt) (λ _. unit_again x m length h)
 
 of_unless : (r : ℕ) (x : Found) → Again x → Again (unless_refused r x)
 of_unless zero x h = h
@@ -95,8 +95,8 @@ module _ (b : List ℕ) (o : Octets b) (n : ℕ) (cp : List ℕ) where
   of_xf : Again (look_xf b n)
   unfolding look_xf xf_words xf_address
   of_xf =
-      cond_both Again (ltb n 5) (λ _. tt)
-      (λ _. cond_both Again (ltb xf_count (xf_address b + xf_words b)) (λ _. tt)
+      cond_both (ltb n 5) _ _ Again (λ _. tt)
+      (λ _. cond_both (ltb xf_count (xf_address b + xf_words b)) _ _ Again (λ _. tt)
       (λ _. of_whole n _ 0 (LoadXf (xf_words b) (xf_address b)) (omega arith, big_lt b 3 o 2)))
 
   of_indexed : (op : ℕ) → Again (look_indexed op b n cp)
@@ -116,21 +116,21 @@ module _ (b : List ℕ) (o : Octets b) (n : ℕ) (cp : List ℕ) where
   of_opcode : (op : ℕ) → Again (by_opcode op b n cp)
   unfolding by_opcode look_cp look_call look_bp
   of_opcode op =
-      cond_both Again (eqb op 0x00) (λ _. of_whole n 1 0 NoOperation tt)
-      (λ _. cond_both Again (eqb op 0x48) (λ _. of_whole n 1 0 InvalidateCache tt)
-      (λ _. cond_both Again (eqb op 0x44) (λ _. of_whole n 1 0 Metrics tt)
-      (λ _. cond_both Again (eqb op 0x08)
-      (λ _. cond_both Again (ltb n 2) (λ _. tt)
-      (λ _. cond_both Again (cp_accepted (get_or b 1 0)) (λ _. of_whole n 6 0 (LoadCp (get_or b 1 0) (big_endian b 2 4)) (o 1)) (λ _. tt)))
-      (λ _. cond_both Again (eqb op 0x10) (λ _. of_xf)
-      (λ _. cond_both Again (is_indexed op) (λ _. of_indexed op)
-      (λ _. cond_both Again (eqb op 0x40) (λ _. of_whole n 9 0 (CallList (big_endian b 1 4) (big_endian b 5 4)) tt)
-      (λ _. cond_both Again (eqb op 0x61) (λ _. of_whole n 5 0 (LoadBp (get_or b 1 0) (big_endian b 2 3)) (o 1))
-      (λ _. cond_both Again (is_draw op) (λ _. of_head_lem op) (λ _. tt)))))))))
+      cond_both (eqb op 0x00) _ _ Again (λ _. of_whole n 1 0 NoOperation tt)
+      (λ _. cond_both (eqb op 0x48) _ _ Again (λ _. of_whole n 1 0 InvalidateCache tt)
+      (λ _. cond_both (eqb op 0x44) _ _ Again (λ _. of_whole n 1 0 Metrics tt)
+      (λ _. cond_both (eqb op 0x08) _ _ Again
+      (λ _. cond_both (ltb n 2) _ _ Again (λ _. tt)
+      (λ _. cond_both (cp_accepted (get_or b 1 0)) _ _ Again (λ _. of_whole n 6 0 (LoadCp (get_or b 1 0) (big_endian b 2 4)) (o 1)) (λ _. tt)))
+      (λ _. cond_both (eqb op 0x10) _ _ Again (λ _. of_xf)
+      (λ _. cond_both (is_indexed op) _ _ Again (λ _. of_indexed op)
+      (λ _. cond_both (eqb op 0x40) _ _ Again (λ _. of_whole n 9 0 (CallList (big_endian b 1 4) (big_endian b 5 4)) tt)
+      (λ _. cond_both (eqb op 0x61) _ _ Again (λ _. of_whole n 5 0 (LoadBp (get_or b 1 0) (big_endian b 2 3)) (o 1))
+      (λ _. cond_both (is_draw op) _ _ Again (λ _. of_head_lem op) (λ _. tt)))))))))
 
   of_look : (draw : Draw) → Again (look_of b n cp draw)
   unfolding look_of look_vertex
-  of_look Closed = cond_both Again (eqb n 0) (λ _. tt) (λ _. of_opcode (get_or b 0 0))
+  of_look Closed = cond_both (eqb n 0) _ _ Again (λ _. tt) (λ _. of_opcode (get_or b 0 0))
   of_look (Open primitive format left) =
       of_unless (refusal_of (descriptor_of cp format)) _ (of_whole n (vertex_bytes cp format) 0 Vertex tt)
 

@@ -1,4 +1,2 @@
-pub mod Floats
-pub mod Nine
 pub mod Refusals
 pub mod Handed

@@ -1,9 +1,16 @@
 -- What words name that a caller hands in: a command to write, and a vertex format. A command is five words, the kind, a, b, c and d, as a
 -- unit is told. Words that no command has, a kind that is not listed or a field too wide for 8 or 16 bits where the command has no more,
 -- name a vertex: it is never written, and 18 is its refusal. The writer tests the narrower widths, by 18 too.
-use Rattle.std.specs.Prelude.{cond, ◌&&◌, List, ℕ, ◌^◌, eqb, ltb, get_or}
+use Rattle.std.specs.Prelude.{cond, ◌&&◌, List, ℕ, ◌^◌, eqb, ltb, get_or, Option, Some, None}
 use Rattle.fields.specs.declared.Descriptor.{Descriptor}
-use Rattle.command.specs.Command.{no_operation, invalidate_cache, metrics, load_cp, load_xf, load_indexed, call_list, load_bp, draw_head, vertex}
+use Rattle.command.specs.declared.Command.{Command}
+use Rattle.command.specs.Command.{numbers_of, no_operation, invalidate_cache, metrics, load_cp, load_xf, load_indexed, call_list, load_bp}
+use Rattle.command.specs.Command.{draw_head, vertex}
+
+-- the numbers of a command where one is named, and else a vertex's
+abbrev pub named : Option Command → List ℕ
+named (Some command) = numbers_of command
+named None = vertex
 
 -- a address, b number
 abbrev pub cp_named : ℕ → ℕ → List ℕ

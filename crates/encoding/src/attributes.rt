@@ -1,15 +1,15 @@
 // A vertex descriptor from five words, and decoded attributes as numbers.
 ghost use Rattle.std.specs.Prelude.{◌≡◌, [], ◌∷◌};
-ghost use Rattle.std.specs.Float.{binary32};
-ghost use Rattle.std.specs.Float.Ieee.{to_bits};
 ghost use Rattle.vertex.specs.Answers.{told, triple_bits};
 ghost use Rattle.encoding.specs.Told.{padded};
 ghost use Rattle.encoding.specs.Named.{format_named};
 
 use fields::Descriptor;
+use std::num::f32_to_bits_with_nan;
 use vertex::{Attribute, Triple};
 
-// The vertex format that five words name.
+// The vertex format that five words name. A From would stand in `fields`, which knows nothing of words.
+#[tactic(auto, unfolding(crate::specs::Named::format_named))]
 pub fn descriptor(words: &[u32; 5]) -> Descriptor
     ensures { result ≡ format_named words.now }
 {
@@ -22,21 +22,16 @@ pub fn descriptor(words: &[u32; 5]) -> Descriptor
     }
 }
 
-// A float by its bits; every NaN is told as one.
-pub fn bits(x: f32) -> u32
-    ensures { result ≡ to_bits binary32 x }
-{
-    if x != x {
-        return 0x7FC0_0000;
-    }
-    f32::to_bits(x)
-}
-
 // Three floats by their bits.
+// A From would stand in `vertex`, which knows nothing of words.
 fn triple_words(t: Triple) -> [u32; 3]
     ensures { result ≡ triple_bits t [] }
 {
-    [bits(t.x), bits(t.y), bits(t.z)]
+    [
+        f32_to_bits_with_nan(t.x),
+        f32_to_bits_with_nan(t.y),
+        f32_to_bits_with_nan(t.z),
+    ]
 }
 
 // An attribute's kind and values, then zeros.
@@ -53,7 +48,18 @@ pub fn attribute_words(attribute: Attribute) -> [u32; 10]
             let a = triple_words(t);
             [5, a[0], a[1], a[2], 0, 0, 0, 0, 0, 0]
         }
-        Attribute::Texture(x, y) => [6, bits(x), bits(y), 0, 0, 0, 0, 0, 0, 0],
+        Attribute::Texture(x, y) => [
+            6,
+            f32_to_bits_with_nan(x),
+            f32_to_bits_with_nan(y),
+            0,
+            0,
+            0,
+            0,
+            0,
+            0,
+            0,
+        ],
         Attribute::Normal(t) => {
             let a = triple_words(t);
             [7, a[0], a[1], a[2], 0, 0, 0, 0, 0, 0]
@@ -71,5 +77,7 @@ pub fn attribute_words(attribute: Attribute) -> [u32; 10]
 pub fn raw_list(count: u32, w: [u32; 9]) -> [u32; 10]
     ensures { result ≡ count ∷ w }
 {
-    [count, w[0], w[1], w[2], w[3], w[4], w[5], w[6], w[7], w[8]]
+    let mut list = [count; 10];
+    list[1..].copy_from_slice(&w);
+    list
 }

@@ -5,15 +5,18 @@ mod attributes;
 mod commands;
 
 ghost use Rattle.std.specs.Prelude.{◌≡◌};
-ghost use Rattle.refusal.specs.Number.{number};
+ghost use Rattle.refusal.specs.Outcome.{outcome};
 
-pub use attributes::{attribute_words, bits, descriptor, raw_list};
+pub use attributes::{attribute_words, descriptor, raw_list};
 pub use commands::{command, unit_words};
 use refusal::Reason;
 
-// A refusal's number.
-pub fn refused(reason: Reason) -> u32
-    ensures { result ≡ number reason }
+// The number of an answer: 0 where it was accepted, or the refusal's.
+pub fn answer_number(answer: Result<(), Reason>) -> u32
+    ensures { result ≡ outcome answer }
 {
-    refusal::number(reason) as u32
+    match answer {
+        Ok(()) => 0,
+        Err(reason) => u32::from(reason),
+    }
 }

@@ -1,9 +1,7 @@
 -- The whole effect of each class of command: it touches one thing, and the rest stays.
 use mathlib.Core.Path.{◌≡◌, refl}
-use mathlib.Core.Bool.{false}
-use mathlib.Core.List.{List, ◌∷◌}
+use mathlib.Core.List.{List}
 use Prim.Native.Nat.{ℕ}
-use lib.Dec.{eqb}
 use Rattle.command.specs.Command.{load_cp, load_xf, load_bp, vertex}
 use Rattle.effect.specs.Effect.{loaded_cp, loaded_bp, loaded_xf, copied, cp_after, bp_after, xf_after, vertex_after, Applied}
 
@@ -27,9 +25,3 @@ module _ {bytes cp bp xf buffer : List ℕ} where
       → Applied vertex bytes cp bp xf buffer cp bp xf buffer'
   unfolding cp_after bp_after xf_after vertex_after
   by_vertex e = record { cp_is = refl; bp_is = refl; xf_is = refl; buffer_is = e }
-
-  -- a command of another kind changes nothing that is lent
-  pub by_none : {kind : ℕ} {fields : List ℕ} → eqb kind 0x08 ≡ false → eqb kind 0x61 ≡ false → eqb kind 0x10 ≡ false → eqb kind 0x01 ≡ false
-      → Applied (kind ∷ fields) bytes cp bp xf buffer cp bp xf buffer
-  unfolding cp_after bp_after xf_after vertex_after
-  by_none p q r s = record { cp_is = rw p; bp_is = rw q; xf_is = rw r; buffer_is = rw s }

@@ -5,7 +5,7 @@ use native.Mathlib.Nat.{le_trans, mod-lt}
 use native.Mathlib.Omega.{arith}
 use lib.Dec.{ltb, eqb, lit≤, lit<}
 use borrow.Author.Tests.{lt-ltb}
-use Rattle.laws.proofs.Cases.{cond_both}
+use Rattle.std.proofs.lemmas.Bool.{cond_both}
 use Rattle.fields.specs.declared.Descriptor.{Descriptor}
 use Rattle.fields.specs.Fields.{bits_at, place_in, modes, mode_of, count_of, format_of, normal_bits, fraction_bits, fraction_of, indices_of}
 use Rattle.fields.specs.Fields.{byte_shifts_bit, three_indices_bit}
@@ -19,7 +19,7 @@ bits_lt d p q h = mod-lt _ h
 pub mode_le : (d : Descriptor) (k : ℕ) → mode_of d k ≤ 3
 unfolding mode_of
 mode_le d k =
-    cond_both (λ x. x ≤ 3) (ltb k 9) (λ _. omega (arith, bits_lt d (place_in modes k) 2 (lit< tt)))
+    cond_both (ltb k 9) _ _ (λ x. x ≤ 3) (λ _. omega (arith, bits_lt d (place_in modes k) 2 (lit< tt)))
     (λ _. omega (arith, bits_lt d (place_in modes k) 4 (lit< tt)))
 
 pub mode_matrix : (d : Descriptor) (k : ℕ) → k < 9 → mode_of d k ≤ 1
@@ -37,18 +37,19 @@ normal_lt (suc (suc (suc (suc n)))) = lit< tt
 pub fraction_lt : (d : Descriptor) (k : ℕ) → fraction_of d k < 32
 unfolding fraction_of fraction_bits
 fraction_lt d k =
-    cond_both (λ x. x < 32) (eqb k 10) (λ _. normal_lt (format_of d k))
-    (λ _. cond_both (λ x. x < 32) (ltb (format_of d k) 2 && eqb (bits_at d byte_shifts_bit 2) 0) (λ _. lit< tt) (λ _. bits_lt d _ 32 (lit< tt)))
+    cond_both (eqb k 10) _ _ (λ x. x < 32) (λ _. normal_lt (format_of d k))
+    (λ _. cond_both (ltb (format_of d k) 2 && eqb (bits_at d byte_shifts_bit 2) 0) _ _ (λ x. x < 32) (λ _. lit< tt)
+    (λ _. bits_lt d _ 32 (lit< tt)))
 
 pub indices_le : (d : Descriptor) (k : ℕ) → indices_of d k ≤ 3
 unfolding indices_of
 indices_le d k =
-    cond_both (λ x. x ≤ 3) (eqb k 10 && (eqb (count_of d 10) 1 && eqb (bits_at d three_indices_bit 2) 1)) (λ _. lit≤ tt) (λ _. lit≤ tt)
+    cond_both (eqb k 10 && (eqb (count_of d 10) 1 && eqb (bits_at d three_indices_bit 2) 1)) _ _ (λ x. x ≤ 3) (λ _. lit≤ tt) (λ _. lit≤ tt)
 
 pub indices_some : (d : Descriptor) (k : ℕ) → 1 ≤ indices_of d k
 unfolding indices_of
 indices_some d k =
-    cond_both (λ x. 1 ≤ x) (eqb k 10 && (eqb (count_of d 10) 1 && eqb (bits_at d three_indices_bit 2) 1)) (λ _. lit≤ tt) (λ _. lit≤ tt)
+    cond_both (eqb k 10 && (eqb (count_of d 10) 1 && eqb (bits_at d three_indices_bit 2) 1)) _ _ (λ x. 1 ≤ x) (λ _. lit≤ tt) (λ _. lit≤ tt)
 
 -- ---- the largest sizes
 pub colour_le : (f : ℕ) → colour_width f ≤ 4

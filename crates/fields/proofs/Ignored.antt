@@ -9,7 +9,8 @@ use lib.Dec.{T, leb, ltb, lit≤}
 use lib.ListN.{get_or}
 use lib.Pow.{field, mod-mod-pow}
 use borrow.Author.Tests.{lt-ltb, le-ltb, leb-true}
-use Rattle.laws.proofs.Cases.{is_true, order}
+use Rattle.std.proofs.lemmas.Bool.{cases_lt}
+use Rattle.laws.proofs.Cases.{is_true}
 use Rattle.laws.proofs.Table.{every, at, both, both_left, both_right}
 use Rattle.fields.specs.declared.Descriptor.{Descriptor}
 use Rattle.fields.specs.Fields.{bits_at, none, place_in, modes, counts, formats, shifts, byte_shifts_bit, three_indices_bit}
@@ -71,14 +72,15 @@ module _ (d e : Descriptor) (a : Alike d e) where
       rw (lt-ltb k 21 h)
       (vat (get_or table k 0) q (leb-true 64 (get_or table k 0) (is_true _ (at (λ i. leb 64 (get_or table i 0)) 21 t k h)))))
       (λ h. rw (le-ltb k 21 h) (vat none q (lit≤ tt)))
-      (order k 21)
+      (cases_lt k 21)
 
-  mode_in : (k w : ℕ) → T (within (get_or modes k 0) w) → k < 21 → bits_at d (place_in modes k) (2 ^ w) ≡ bits_at e (place_in modes k) (2 ^ w)
+  mode_in : (k w : ℕ) → T (within (get_or modes k 0) w) → k < 21
+      → bits_at d (place_in modes k) (2 ^ w) ≡ bits_at e (place_in modes k) (2 ^ w)
   mode_in k w t h = rw (lt-ltb k 21 h) (vcd (get_or modes k 0) w t)
 
   pub mode_alike : (k : ℕ) → mode_of d k ≡ mode_of e k
   unfolding mode_of modes
-  mode_alike k = ⊎_elim below (λ h. rw (le-ltb k 21 h, vat none 2 (lit≤ tt), vat none 4 (lit≤ tt))) (order k 21)
+  mode_alike k = ⊎_elim below (λ h. rw (le-ltb k 21 h, vat none 2 (lit≤ tt), vat none 4 (lit≤ tt))) (cases_lt k 21)
     where
       below : k < 21 → mode_of d k ≡ mode_of e k
       below h = go (ltb k 9) (at (λ i. within (get_or modes i 0) (cond (ltb i 9) 1 2)) 21 tt k h)

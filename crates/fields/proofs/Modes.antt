@@ -8,7 +8,8 @@ use native.Mathlib.Omega.{arith}
 use lib.Dec.{T, ltb, eqb}
 use lib.ListN.{get_or}
 use borrow.Author.Tests.{eqb-true, lt-ltb, le-ltb}
-use Rattle.laws.proofs.Cases.{is_true, order}
+use Rattle.std.proofs.lemmas.Bool.{cases_lt}
+use Rattle.laws.proofs.Cases.{is_true}
 use Rattle.laws.proofs.Table.{every, at}
 use Rattle.fields.specs.declared.Descriptor.{Descriptor}
 use Rattle.fields.specs.Fields.{words, bits_at, none, place_in, modes, counts, formats, shifts, mode_of, count_of, format_of}
@@ -21,7 +22,7 @@ ruled table rule t past k =
     ⊎_elim
     (λ h. rw (lt-ltb k 21 h) (eqb-true (get_or table k 0) (rule k) (is_true _ (at (λ i. eqb (get_or table i 0) (rule i)) 21 t k h))))
     (λ h. rw (le-ltb k 21 h) (sym (past k h)))
-    (order k 21)
+    (cases_lt k 21)
 
 abbrev mode_rule : ℕ → ℕ
 mode_rule k = cond (ltb k 9) k (cond (ltb k 13) (2 * k - 9) (cond (ltb k 21) (2 * k + 6) none))
@@ -71,7 +72,7 @@ beyond k h a b c d e f g i j l m n =
 
 -- a number that is none from 9 to 20
 pub outside : (k : ℕ) → (9 ≤ k → k < 21 → ⊥) → (k < 9) ⊎ (21 ≤ k)
-outside k h = ⊎_elim (λ l. inl l) (λ g. ⊎_elim (λ l. absurd (h g l)) (λ m. inr m) (order k 21)) (order k 9)
+outside k h = ⊎_elim (λ l. inl l) (λ g. ⊎_elim (λ l. absurd (h g l)) (λ m. inr m) (cases_lt k 21)) (cases_lt k 9)
 
 -- a table without places for matrices
 nowhere : (table : List ℕ) → T (every (λ i. eqb (get_or table i 0) none) 9) → (k : ℕ) → (k < 9) ⊎ (21 ≤ k) → place_in table k ≡ none

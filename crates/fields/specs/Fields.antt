@@ -5,6 +5,8 @@
 use Rattle.std.specs.Prelude.{◌≡◌, cond, ◌&&◌, List, [], ◌∷◌, ℕ, zero, suc, ◌+◌, ◌/◌, ◌%◌, ◌^◌, ltb, eqb, get_or}
 use Rattle.fields.specs.declared.Descriptor.{Descriptor}
 use Rattle.fields.specs.declared.Field.{Field}
+use Rattle.fields.specs.declared.Mode.{Mode}
+use Rattle.fields.specs.declared.Mode.TheVariants.{Absent, Direct, Index8, Index16}
 
 -- the five words of a descriptor
 abbrev pub words : Descriptor → List ℕ
@@ -80,9 +82,29 @@ fraction_of d k = fraction_bits k (format_of d k) (bits_at d byte_shifts_bit 2) 
 unfoldable pub indices_of : Descriptor → ℕ → ℕ
 indices_of d k = cond (eqb k 10 && (eqb (count_of d 10) 1 && eqb (bits_at d three_indices_bit 2) 1)) 3 1
 
+-- the mode of a number; no field has more than 3
+abbrev pub mode_named : ℕ → Mode
+mode_named zero = Absent
+mode_named (suc zero) = Direct
+mode_named (suc (suc zero)) = Index8
+mode_named (suc (suc (suc n))) = Index16
+
+-- the bytes of an index of a mode, 0 where there is none
+abbrev pub index_bytes : Mode → ℕ
+index_bytes Absent = 0
+index_bytes Direct = 0
+index_bytes Index8 = 1
+index_bytes Index16 = 2
+
 -- all of it
 abbrev pub field_of : Descriptor → ℕ → Field
-field_of d k = record { mode = mode_of d k; count = count_of d k; format = format_of d k; fraction = fraction_of d k; indices = indices_of d k }
+field_of d k = record {
+  mode = mode_named (mode_of d k);
+  count = count_of d k;
+  format = format_of d k;
+  fraction = fraction_of d k;
+  indices = indices_of d k;
+}
 
 -- "VCD bits not named here are kept and ignored": descriptors that differ in such bits alone, above the 17 and the 16 that are named
 pub record Alike (d e : Descriptor) : Type 0 where

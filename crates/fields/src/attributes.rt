@@ -1,4 +1,6 @@
-// The attributes of a vertex by their numbers, in document 01's order: 0 is the position matrix, 1 to 8 are the texture matrices, and then:
+// The attributes of a vertex by their numbers, in document 01's order: 0 is the position matrix, 1 to 8 are the texture matrices, and then
+// those below. They are numbers and no enum, since public functions answer for every number, 19 for one above 20, and arrays are indexed by
+// them.
 pub const POSITION: usize = 9;
 
 pub const NORMAL: usize = 10;

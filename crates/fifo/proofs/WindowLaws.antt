@@ -8,7 +8,7 @@ use native.Mathlib.Omega.{arith}
 use lib.Dec.{eqb}
 use lib.ListN.{get_or}
 use borrow.Author.Tests.{ltb-true, leb-true, eqb-true, lt-ltb, le-leb, lt-leb, eq-eqb}
-use Rattle.laws.proofs.Cases.{order, and_left, and_right}
+use Rattle.std.proofs.lemmas.Bool.{and_parts, cases_lt}
 use Rattle.laws.proofs.Tests.{all_hold}
 use Rattle.laws.proofs.Remainder.{mod_two}
 use Rattle.fifo.specs.declared.Window.{Window}
@@ -50,8 +50,8 @@ pub ready_true : (f : Fifo) (n : ℕ) → ready_by f n ≡ true → Ready f n
 unfolding ready_by
 ready_true f n e =
     record {
-      valid = valid_true f.window (and_left (valid_by f.window) (eqb n (size_of f.window)) e);
-      whole = eqb-true _ _ (and_right (valid_by f.window) (eqb n (size_of f.window)) e);
+      valid = valid_true f.window (and_parts (valid_by f.window) (eqb n (size_of f.window)) e).0;
+      whole = eqb-true _ _ (and_parts (valid_by f.window) (eqb n (size_of f.window)) e).1;
     }
 
 pub true_ready : (f : Fifo) (n : ℕ) → Ready f n → ready_by f n ≡ true
@@ -79,4 +79,7 @@ gap_count w v =
     ⊎_elim
     (λ l. rw (lt-leb w.read w.write l) (⊎_elim (λ k. omega (arith, k)) (λ k. omega (arith, k)) (count_cases w v)))
     (λ l. rw (le-leb w.read w.write l) (⊎_elim (λ k. omega (arith, k)) (λ k. omega (arith, k)) (count_cases w v)))
-    (order w.write w.read)
+    (cases_lt w.write w.read)
+
+pub gap_valid : (w : Window) → valid_by w ≡ true → gap_of w ≡ count_of w
+gap_valid w e = gap_count w (valid_true w e)

@@ -1,4 +1,5 @@
 // Recordings (document 02, L1) on the state's words: read and written, whole or the head alone.
+// Answers are the C interface's numbers, 0 or the refusal's; what a call tells beside is written through what C lends.
 #![tactic(auto)]
 
 ghost use Rattle.std.specs.Prelude.{◌≡◌};
@@ -7,16 +8,13 @@ ghost use Rattle.recording.specs.Faults.{stream_limit, head_place, rest_fault};
 ghost use Rattle.filing.specs.Calls.{LoadsFile, LoadsHead, PutsFile, PutsHead};
 
 use machine::Registers;
-use recording::{Fault, HEAD_LENGTH, Verdict};
-use recordreader::{HeadAnswer, ReadAnswer};
+use recording::HEAD_LENGTH;
 
 // Stores registers in the state's words; the window and the control word stay.
 fn save(state: &mut [u32; 327], registers: Registers)
     ensures { state.new ≡ words_by (fifo_of state.old) registers.cp registers.bp registers.draw }
 {
-    let cp = registers.cp;
-    let bp = registers.bp;
-    let draw = registers.draw;
+    let Registers { cp, bp, draw } = registers;
     saving::save_registers(state, &cp, &bp, draw);
 }
 
@@ -25,16 +23,13 @@ pub fn read(state: &mut [u32; 327], file: &[u8], xf: &mut [u32], stream: &mut [u
     ensures { LoadsFile stream_limit state.old file.now xf.old stream.old
         result state.new xf.new stream.new }
 {
-    let loaded = recordreader::read(file, xf);
-    let registers = loaded.registers;
-    let answer = loaded.answer;
-    match answer {
-        ReadAnswer::Refused(reason) => encoding::refused(reason),
-        ReadAnswer::Stream { at, length } => {
-            save(state, registers);
-            *stream = [at, length];
+    match recordreader::read(file, xf) {
+        Ok(read) => {
+            save(state, read.registers);
+            *stream = [read.at, read.length];
             0
         }
+        Err(reason) => u32::from(reason),
     }
 }
 
@@ -43,16 +38,13 @@ pub fn read_head(state: &mut [u32; 327], head: &[u8], xf: &mut [u32], length: &m
     ensures { LoadsHead stream_limit state.old head.now xf.old length.old
         result state.new xf.new length.new }
 {
-    let loaded = recordreader::read_head(head, xf);
-    let registers = loaded.registers;
-    let answer = loaded.answer;
-    match answer {
-        HeadAnswer::Refused(reason) => encoding::refused(reason),
-        HeadAnswer::Stream(told) => {
-            save(state, registers);
-            *length = told;
+    match recordreader::read_head(head, xf) {
+        Ok(read) => {
+            save(state, read.registers);
+            *length = read.stream;
             0
         }
+        Err(reason) => u32::from(reason),
     }
 }
 
@@ -60,22 +52,14 @@ pub fn read_head(state: &mut [u32; 327], head: &[u8], xf: &mut [u32], length: &m
 pub fn check_rest(length: u32, rest: usize) -> u32
     ensures { result ≡ rest_fault length rest }
 {
-    let verdict = recording::check_rest(length, rest);
-    match verdict {
-        Verdict::Sound => 0,
-        Verdict::Refused(reason) => encoding::refused(reason),
-    }
+    encoding::answer_number(recording::check_rest(length, rest))
 }
 
 // The byte of the first fault of a head, 18,016 where it has none.
 pub fn find_fault(head: &[u8]) -> u32
     ensures { result ≡ head_place stream_limit head.now }
 {
-    let found = recording::search(head);
-    match found {
-        Fault::None => HEAD_LENGTH as u32,
-        Fault::At { place, reason: _ } => place,
-    }
+    recording::search(head).map_or(HEAD_LENGTH as u32, |fault| fault.place)
 }
 
 // Writes a whole file of the state's registers, and tells its bytes.
@@ -91,8 +75,7 @@ pub fn write(
 {
     let cp = words::cp(state);
     let bp = words::bp(state);
-    let answer = recordwriter::write(&cp, &bp, xf, stream, output);
-    answers::tell_bytes(answer, written)
+    answers::tell_bytes(recordwriter::write(&cp, &bp, xf, stream, output), written)
 }
 
 // Writes what stands before a stream of so many bytes, and tells its bytes.
@@ -108,6 +91,8 @@ pub fn write_head(
 {
     let cp = words::cp(state);
     let bp = words::bp(state);
-    let answer = recordwriter::write_head(&cp, &bp, xf, stream, output);
-    answers::tell_bytes(answer, written)
+    answers::tell_bytes(
+        recordwriter::write_head(&cp, &bp, xf, stream, output),
+        written,
+    )
 }

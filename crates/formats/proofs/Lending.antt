@@ -4,51 +4,53 @@ use mathlib.Core.Bool.{Bool, true, false, cond}
 use mathlib.Core.List.{List, [], ◌∷◌}
 use Prim.Native.Nat.{ℕ}
 use lib.Dec.{eqb}
-use lib.ListN.{length, drop, replicate}
-use Rattle.laws.specs.Values.{up_to}
+use lib.ListN.{drop}
+use Rattle.std.specs.Prelude.{Result, Ok, Err}
 use Rattle.refusal.specs.Number.{number}
+use Rattle.refusal.specs.Outcome.{outcome}
 use Rattle.refusal.specs.declared.Reason.{Reason}
 use Rattle.fields.specs.declared.Descriptor.{Descriptor}
 use Rattle.layout.specs.declared.Layout.{Layout}
-use Rattle.layout.specs.declared.LayoutAnswer.{LayoutAnswer}
-use Rattle.layout.specs.declared.LayoutAnswer.TheVariants as laid
-use Rattle.layout.specs.Sizes.{size_of, offset_of}
-use Rattle.layout.specs.Answers.{refusal_of, length_of, Laid}
-use Rattle.layout.specs.Answers as layouts
+use Rattle.layout.specs.Sizes.{offset_of}
+use Rattle.layout.specs.Answers.{meaning, refusal_of, Laid}
+use Rattle.layout.proofs.Bounds.{length_accepted}
 use Rattle.vertex.specs.declared.RawWords.{RawWords}
-use Rattle.vertex.specs.declared.RawAnswer.TheVariants as raw
 use Rattle.vertex.specs.Attributes.{attribute_list, singles_of, words_of}
-use Rattle.vertex.specs.Answers.{RawIs, refusal_at, unless, decoding_of, raw_meaning}
-use Rattle.encoding.specs.Told.{first_of, second_of, padded}
+use Rattle.vertex.specs.Answers.{RawIs, refusal_at, unless, decoding_of}
+use Rattle.encoding.specs.Told.{first_of, padded}
 use Rattle.whole.specs.Whole.{whole_to, whole_refusal, DecodesOne, DecodesAll}
 use Rattle.formats.specs.Formats.{LaysOut, TellsAttribute, TellsAll, KeepsBits}
 use Rattle.encoding.proofs.Refusals.{stays, stays_number, first_is}
 
 -- ---- a layout
 
-module _ {d : Descriptor} {l : Layout} (h : Laid d l) (sizes offsets : List ℕ) (bytes : ℕ) where
-  pub layout_refused : (reason : Reason) {r : ℕ} → l.answer ≡ laid.Refused reason → r ≡ number reason
+module _ {d : Descriptor} (sizes offsets : List ℕ) (bytes : ℕ) where
+  pub layout_refused : (reason : Reason) {r : ℕ} → Laid d (Err reason) → r ≡ number reason
       → LaysOut d sizes offsets bytes r sizes offsets bytes
-  layout_refused reason t e =
+  layout_refused reason h e =
       record {
-        answer_is = e ∙ ap (λ (x : LayoutAnswer). first_of (layouts.meaning x)) (sym t) ∙ ap first_of h.answer_is;
+        answer_is = e ∙ ap first_of h.answer_is;
         sizes_are = stays reason e _ sizes;
         offsets_are = stays reason e _ offsets;
         length_is = stays_number reason e _ bytes;
       }
 
-  pub layout_done : l.answer ≡ laid.Accepted → LaysOut d sizes offsets bytes 0 l.sizes l.offsets l.length
-  unfolding length_of
-  layout_done t =
-      let z : refusal_of d ≡ 0 = sym (ap (λ (x : LayoutAnswer). first_of (layouts.meaning x)) (sym t) ∙ ap first_of h.answer_is) in
+  pub layout_done : (l : Layout) → Laid d (Ok l) → LaysOut d sizes offsets bytes 0 l.sizes l.offsets l.length
+  layout_done l h =
+      let z : 0 ≡ refusal_of d = ap first_of h.answer_is in
       record {
-        answer_is = sym z;
-        sizes_are = h.sizes_is ∙ ap (λ (n : ℕ). cond (eqb n 0) (up_to (size_of d) 21) (replicate 21 0)) z;
-        offsets_are = h.offsets_is ∙ ap (λ (n : ℕ). cond (eqb n 0) (up_to (offset_of d) 21) (replicate 21 0)) z;
-        length_is = h.length_is ∙ ap (λ (n : ℕ). cond (eqb n 0) (offset_of d 21) 0) z;
+        answer_is = z;
+        sizes_are = h.layout_is.sizes_is;
+        offsets_are = h.layout_is.offsets_is;
+        length_is = h.layout_is.length_is ∙ length_accepted d (sym z);
       }
 
 -- ---- an attribute
+
+-- an answer's first number
+first_outcome : {T : Type 0} (a : Result T Reason) → first_of (meaning a) ≡ outcome a
+first_outcome (Ok x) = refl
+first_outcome (Err r) = refl
 
 -- words of what is accepted, or the old ones
 told_by : (b : Bool) (n : ℕ) (l values : List ℕ)
@@ -56,12 +58,13 @@ told_by : (b : Bool) (n : ℕ) (l values : List ℕ)
 told_by true n l values = refl
 told_by false n l values = refl
 
-module _ {d : Descriptor} {k : ℕ} {vertex values values' : List ℕ} {a : LayoutAnswer} (h : DecodesOne d k vertex values a values') where
+module _ {d : Descriptor} {k : ℕ} {vertex values values' : List ℕ} {a : Result (Unit {0}) Reason}
+    (h : DecodesOne d k vertex values a values') where
   -- the answer's number is the refusal
-  refusal_is : {r : ℕ} → first_of (layouts.meaning a) ≡ r → r ≡ refusal_at d k vertex
-  refusal_is e = sym e ∙ ap first_of h.answer_is
+  refusal_is : {r : ℕ} → r ≡ outcome a → r ≡ refusal_at d k vertex
+  refusal_is e = e ∙ sym (first_outcome a) ∙ ap first_of h.answer_is
 
-  pub one_told : {r : ℕ} → first_of (layouts.meaning a) ≡ r → TellsAttribute d k vertex values r values'
+  pub one_told : {r : ℕ} → r ≡ outcome a → TellsAttribute d k vertex values r values'
   one_told {r} e =
       let l = attribute_list d k vertex (offset_of d k) in
       let n = refusal_at d k vertex in
@@ -73,31 +76,38 @@ module _ {d : Descriptor} {k : ℕ} {vertex values values' : List ℕ} {a : Layo
 
 -- ---- a whole vertex
 
-module _ {d : Descriptor} {vertex values values' : List ℕ} {a : LayoutAnswer} (h : DecodesAll d vertex values a values') where
+module _ {d : Descriptor} {vertex values values' : List ℕ} {a : Result (Unit {0}) Reason} (h : DecodesAll d vertex values a values') where
   -- the answer's number is the refusal
-  number_is : {r : ℕ} → first_of (layouts.meaning a) ≡ r → r ≡ whole_refusal d vertex
-  number_is e = sym e ∙ ap first_of h.answer_is
+  number_is : {r : ℕ} → r ≡ outcome a → r ≡ whole_refusal d vertex
+  number_is e = e ∙ sym (first_outcome a) ∙ ap first_of h.answer_is
 
-  pub all_told : {r : ℕ} → first_of (layouts.meaning a) ≡ r → TellsAll d vertex values r values'
+  pub all_told : {r : ℕ} → r ≡ outcome a → TellsAll d vertex values r values'
   all_told e = record {
     answer_is = number_is e;
     values_are = h.values_are ∙ ap (λ (n : ℕ). cond (eqb n 0) (whole_to d vertex 21) values) (sym (number_is e));
   }
 
-module _ {d : Descriptor} {k : ℕ} {vertex : List ℕ} {w : RawWords} (h : RawIs d k vertex w) (values : List ℕ) where
-  pub raw_refused : (reason : Reason) {r : ℕ} → w.answer ≡ raw.Refused reason → r ≡ number reason → KeepsBits d k vertex values r values
-  raw_refused reason t e =
+-- ---- raw words
+
+module _ {d : Descriptor} {k : ℕ} {vertex : List ℕ} (values : List ℕ) where
+  pub raw_refused : (reason : Reason) {r : ℕ} → RawIs d k vertex (Err reason) → r ≡ number reason → KeepsBits d k vertex values r values
+  raw_refused reason h e =
       record {
         answer_is =
-            e ∙ ap first_of (ap raw_meaning (sym t) ∙ h.answer_is) ∙ first_is (refusal_at d k vertex) (singles_of d k ∷ []);
+            e ∙ ap first_of h.answer_is
+            ∙ first_is (refusal_at d k vertex) (singles_of d k ∷ words_of vertex (offset_of d k) (singles_of d k));
         values_are = stays reason e _ values;
       }
 
-  pub raw_done : (n : ℕ) {values' : List ℕ} → w.answer ≡ raw.Count n → values' ≡ n ∷ w.words → KeepsBits d k vertex values 0 values'
-  raw_done n t e =
-      let m = ap raw_meaning (sym t) ∙ h.answer_is in
-      let z : 0 ≡ refusal_at d k vertex = ap first_of m ∙ first_is (refusal_at d k vertex) (singles_of d k ∷ []) in
-      let s : n ≡ singles_of d k = ap second_of (m ∙ ap (λ (x : ℕ). unless x (singles_of d k ∷ [])) (sym z)) in
-      let l : w.words ≡ words_of vertex (offset_of d k) (singles_of d k) =
-      h.words_is ∙ ap (λ (x : ℕ). cond (eqb x 0) (words_of vertex (offset_of d k) (singles_of d k)) (replicate 9 0)) (sym z) in
-      record { answer_is = z; values_are = e ∙ (λ i. s i ∷ l i) }
+  pub raw_done : (w : RawWords) {values' : List ℕ} → RawIs d k vertex (Ok w) → values' ≡ w.count ∷ w.words
+      → KeepsBits d k vertex values 0 values'
+  raw_done w h e =
+      let z : 0 ≡ refusal_at d k vertex = ap first_of h.answer_is
+      ∙ first_is (refusal_at d k vertex) (singles_of d k ∷ words_of vertex (offset_of d k) (singles_of d k)) in
+      record {
+        answer_is = z;
+        values_are =
+            e
+            ∙ ap (drop 1)
+            (h.answer_is ∙ ap (λ (x : ℕ). unless x (singles_of d k ∷ words_of vertex (offset_of d k) (singles_of d k))) (sym z));
+      }

@@ -2,7 +2,7 @@
 use mathlib.Core.List.{List, [], ◌∷◌, ◌++◌}
 use Prim.Native.Nat.{ℕ, zero, suc, ◌+◌}
 use lib.ListN.{length, take, drop}
-use Rattle.laws.proofs.Cases.{cond_both}
+use Rattle.std.proofs.lemmas.Bool.{cond_both}
 use Rattle.octets.proofs.Number.{Octets, octets_take, octets_drop}
 use Rattle.fifo.specs.declared.Fifo.{Fifo}
 use Rattle.queue.specs.Feeding.{put, put_round, fed, accepted, ring_after}
@@ -26,4 +26,4 @@ round_octets ring at straight bytes o h =
 pub fed_octets : (f : Fifo) (ring bytes : List ℕ) → Octets ring → Octets bytes → Octets (ring_after f ring bytes)
 unfolding ring_after fed
 fed_octets f ring bytes o h =
-    cond_both Octets (accepted f ring bytes) (λ _. round_octets ring _ _ bytes o h) (λ _. o)
+    cond_both (accepted f ring bytes) _ _ Octets (λ _. round_octets ring _ _ bytes o h) (λ _. o)

@@ -10,8 +10,7 @@ use native.Mathlib.Omega.{arith}
 use lib.Dec.{eqb, leb}
 use lib.ListN.{length, drop, length-append, length-drop}
 use borrow.Author.Tests.{eqb-true, leb-true, ne_eqb, le-ltb}
-use Rattle.laws.proofs.Cases.{cond_both, order, and_left, and_right}
-use Rattle.laws.proofs.Tests.{or_cases}
+use Rattle.std.proofs.lemmas.Bool.{and_parts, cases_lt, cond_both, or_cases}
 use Rattle.fifo.specs.declared.Fifo.{Fifo}
 use Rattle.fifo.specs.declared.Window.{Window}
 use Rattle.fifo.specs.Window.{count_of}
@@ -29,7 +28,7 @@ use Rattle.history.proofs.Flow.{Flows, flow_found, flow_run}
 -- ---- a write of control, clear or a mark leaves the queue
 -- a mark is one of the words 2 and 3
 mark : (o : ℕ) → 0x28 ≤ o → o ≤ 0x2F → (word_at o ≡ 2) ⊎ (word_at o ≡ 3)
-mark o lo hi = ⊎_elim (λ h. inl (omega (arith, h))) (λ h. inr (omega (arith, h))) (order o 0x2C)
+mark o lo hi = ⊎_elim (λ h. inl (omega (arith, h))) (λ h. inr (omega (arith, h))) (cases_lt o 0x2C)
 
 mark_kept : (w : Window) (o v : ℕ) (ring : List ℕ) → (word_at o ≡ 2) ⊎ (word_at o ≡ 3) → pending (with_register w o v) ring ≡ pending w ring
 unfolding pending count_of with_register
@@ -41,7 +40,7 @@ unfolding stored harmless
 stored_kept f o v ring h =
     ⊎_elim
     (λ e. ⊎_elim (λ t. rw (eqb-true o 2 t)) (λ t. rw (eqb-true o 4 t)) (or_cases (eqb o 2) (eqb o 4) e))
-    (λ e. marks (leb-true 0x28 o (and_left (leb 0x28 o) (leb o 0x2F) e)) (leb-true o 0x2F (and_right (leb 0x28 o) (leb o 0x2F) e)))
+    (λ e. marks (leb-true 0x28 o (and_parts (leb 0x28 o) (leb o 0x2F) e).0) (leb-true o 0x2F (and_parts (leb 0x28 o) (leb o 0x2F) e).1))
     (or_cases (eqb o 2 || eqb o 4) (leb 0x28 o && leb o 0x2F) h)
   where
     marks : 0x28 ≤ o → o ≤ 0x2F → pending (stored f o v).window ring ≡ pending f.window ring
@@ -58,12 +57,13 @@ pub written_kept : (f : Fifo) (o v : ℕ) (ring : List ℕ) → (harmless o || n
     → pending (written f o v).window ring ≡ pending f.window ring
 unfolding written
 written_kept f o v ring h =
-    cond_both (λ (g : Fifo). pending g.window ring ≡ pending f.window ring) (writable o)
+    cond_both (writable o) _ _ (λ (g : Fifo). pending g.window ring ≡ pending f.window ring)
     (λ t. stored_kept f o v ring (if_written (harmless o) (writable o) h t)) (λ _. refl)
 
 -- ---- each call
 pub call_flow : (w : World) (c : Call) → Harmless c
-    → (queue (after w c) ≡ drop (consumed_by (units_of w c)) (queue w ++ fed w c)) × (consumed_by (units_of w c) ≤ length (queue w ++ fed w c))
+    → (queue (after w c) ≡ drop (consumed_by (units_of w c)) (queue w ++ fed w c))
+    × (consumed_by (units_of w c) ≤ length (queue w ++ fed w c))
 unfolding step_of consumed_by Flows
 call_flow w (feed bytes) h = (pending_after w.state.fifo w.ring bytes, omega arith)
 call_flow w take h = rw (append-nil (queue w)) (flow_found w.ring w.state (step_found w.ring w.state) refl)

@@ -8,7 +8,7 @@ use native.Mathlib.Omega.{arith}
 use lib.ListN.{length}
 use lib.Seq.{take_all}
 use borrow.Author.Tests.{eqb-false}
-use Rattle.laws.proofs.Cases.{tested, cond_both}
+use Rattle.std.proofs.lemmas.Bool.{cases_Bool, cond_both}
 use Rattle.command.specs.declared.Command.TheVariants.{LoadXf}
 use Rattle.command.specs.Command.{numbers_of, load_xf}
 use Rattle.writer.specs.Write.{words_of, command_bytes}
@@ -33,7 +33,8 @@ use Rattle.history.proofs.Bytes.{fed_octets}
 use Rattle.history.proofs.More.{step_longer, run_longer}
 
 -- ---- a feed makes the queue longer, and leaves 1 to 5
-ready_same : (f : Fifo) (ring bytes : List ℕ) → ready_by (fifo_after f ring bytes) (length (ring_after f ring bytes)) ≡ ready_by f (length ring)
+ready_same : (f : Fifo) (ring bytes : List ℕ)
+    → ready_by (fifo_after f ring bytes) (length (ring_after f ring bytes)) ≡ ready_by f (length ring)
 ready_same f ring bytes =
     ⊎_elim
     (λ t.
@@ -43,11 +44,11 @@ ready_same f ring bytes =
     (λ t.
     let l = refused_left f ring bytes t in
     ap₂ (λ (g : Fifo) (r : List ℕ). ready_by g (length r)) l.0 l.1)
-    (tested (accepted f ring bytes))
+    (cases_Bool (accepted f ring bytes))
 
 control_same : (f : Fifo) (ring bytes : List ℕ) → (fifo_after f ring bytes).control ≡ f.control
 unfolding fifo_after accept
-control_same f ring bytes = cond_both (λ (g : Fifo). g.control ≡ f.control) (accepted f ring bytes) (λ _. refl) (λ _. refl)
+control_same f ring bytes = cond_both (accepted f ring bytes) _ _ (λ (g : Fifo). g.control ≡ f.control) (λ _. refl) (λ _. refl)
 
 module _ (w : World) (bytes : List ℕ) where
   abbrev s : State

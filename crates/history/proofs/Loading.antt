@@ -8,7 +8,7 @@ use native.Mathlib.Omega.{arith}
 use lib.Dec.{ltb, eqb, lit≤}
 use lib.ListN.{length, length-append}
 use borrow.Author.Tests.{le-leb}
-use Rattle.laws.proofs.Cases.{order, cond_both}
+use Rattle.std.proofs.lemmas.Bool.{cases_lt, cond_both}
 use Rattle.command.specs.declared.Draw.{Draw}
 use Rattle.command.specs.declared.Draw.TheVariants.{Closed, Open}
 use Rattle.command.specs.Command.{Found, unit, waiting, refused}
@@ -72,7 +72,8 @@ next_stage w bytes j waits e = later w bytes waits j (looks (after w (feed bytes
 stage_bounds : (draw : Draw) (p : List ℕ) → (1 ≤ stage_of draw p) × (stage_of draw p ≤ 3)
 stage_bounds Closed [] = (lit≤ tt, lit≤ tt)
 stage_bounds Closed (op ∷ p) =
-    cond_both (λ (n : ℕ). (1 ≤ n) × (n ≤ 3)) (eqb op 0x10 && ltb (length (op ∷ p)) 5) (λ _. (lit≤ tt, lit≤ tt)) (λ _. (lit≤ tt, lit≤ tt))
+    cond_both (eqb op 0x10 && ltb (length (op ∷ p)) 5) _ _
+    (λ (n : ℕ). (1 ≤ n) × (n ≤ 3)) (λ _. (lit≤ tt, lit≤ tt)) (λ _. (lit≤ tt, lit≤ tt))
 stage_bounds (Open primitive format left) p = (lit≤ tt, lit≤ tt)
 
 -- a world waits, if it does, at a stage from g on
@@ -109,7 +110,7 @@ module _ (w : World) (g : ℕ) (most : g ≤ 4) (from : From g w) where
       let left = none_run w.ring limit w.state (omega (arith, none)) in
       inl (omega arith, subst (λ (s : State). From (g + 0) (record { state = s; ring = w.ring })) (sym left) same_from))
       (λ some. inr (refl, some))
-      (order (length (run_of w.ring limit w.state).units) 1)
+      (cases_lt (length (run_of w.ring limit w.state).units) 1)
 
   goes_write : (offset value : ℕ) → Harmless (write offset value) → Goes g w (write offset value)
   goes_write offset value h = inl (omega arith, rw (written_kept w.state.fifo offset value w.ring h) same_from)

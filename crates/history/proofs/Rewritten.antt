@@ -9,7 +9,7 @@ use lib.Dec.{ltb, eqb}
 use lib.ListN.{length, take, drop, length-drop, take-append-drop}
 use lib.Seq.{length-take-le}
 use borrow.Author.Tests.{le-ltb, eqb-true}
-use Rattle.laws.proofs.Cases.{cond_both}
+use Rattle.std.proofs.lemmas.Bool.{cond_both}
 use Rattle.layout.specs.Answers.{refusal_of}
 use Rattle.command.specs.declared.Draw.{Draw}
 use Rattle.command.specs.declared.Draw.TheVariants.{Closed, Open}
@@ -41,7 +41,7 @@ unless_vertex (suc r) x h = tt
 open_vertex : (n : ℕ) (cp : List ℕ) (format : ℕ) → IsVertex (look_vertex n cp format)
 unfolding look_vertex whole
 open_vertex n cp format =
-    unless_vertex (refusal_of (descriptor_of cp format)) _ (cond_both IsVertex (ltb n (vertex_bytes cp format)) (λ _. tt) (λ _. refl))
+    unless_vertex (refusal_of (descriptor_of cp format)) _ (cond_both (ltb n (vertex_bytes cp format)) _ _ IsVertex (λ _. tt) (λ _. refl))
 
 no_draw : (b : List ℕ) (n : ℕ) (cp : List ℕ) (d : Draw) (c : List ℕ) (m l : ℕ) → look_of b n cp d ≡ unit c m l → (kind_of c ≡ 0x01 → ⊥)
     → d ≡ Closed

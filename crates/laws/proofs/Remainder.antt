@@ -4,7 +4,7 @@ use mathlib.Core.Path.{◌≡◌, ap, ◌∙◌}
 use mathlib.Core.Logic.{◌⊎◌, inl, inr, ⊎_elim}
 use native.Mathlib.Nat.{add-mod_right, mod-eq_of_lt, mod-lt, mod-add-mod}
 use native.Mathlib.Omega.{arith}
-use Rattle.laws.proofs.Cases.{order}
+use Rattle.std.proofs.lemmas.Bool.{cases_lt}
 
 pub mod_once : {x s : ℕ} → x < s → (x + s) % s ≡ x
 mod_once {x} {s} h = add-mod_right x s ∙ mod-eq_of_lt h
@@ -19,7 +19,7 @@ mod_two x s h =
     let m : (x - s + s) % s ≡ x - s = mod_once (omega arith) in
     let n : x % s ≡ x - s = ap (λ (y : ℕ). y % s) e ∙ m in
     inr (l, omega arith))
-    (order x s)
+    (cases_lt x s)
 
 -- places less than the divisor apart have different remainders
 pub mod_distinct : (a d s : ℕ) → 0 < d → d < s → a % s ≡ (a + d) % s → ⊥

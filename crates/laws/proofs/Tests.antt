@@ -1,21 +1,20 @@
 -- What tests that hold together say one by one.
 use mathlib.Core.Path.{◌≡◌, refl}
-use mathlib.Core.Logic.{◌⊎◌, inl, inr}
-use mathlib.Core.Bool.{Bool, true, false, ◌&&◌, ◌||◌}
+use mathlib.Core.Bool.{Bool, true, ◌&&◌}
 use mathlib.Core.List.{List, [], ◌∷◌}
 use Prim.Native.Nat.{ℕ, zero, suc}
 use lib.ListN.{get_or}
 use Rattle.laws.specs.Tests.{all_from, all_of}
-use Rattle.laws.proofs.Cases.{and_left, and_right}
+use Rattle.std.proofs.lemmas.Bool.{and_parts}
 
 from_first : (t : Bool) (us : List Bool) → all_from t us ≡ true → t ≡ true
 from_first t [] e = e
-from_first t (u ∷ us) e = and_left t u (from_first (t && u) us e)
+from_first t (u ∷ us) e = (and_parts t u (from_first (t && u) us e)).0
 
 from_rest : (t : Bool) (us : List Bool) → all_from t us ≡ true → (k : ℕ) → get_or us k true ≡ true
 from_rest t [] e zero = refl
 from_rest t [] e (suc k) = refl
-from_rest t (u ∷ us) e zero = and_right t u (from_first (t && u) us e)
+from_rest t (u ∷ us) e zero = (and_parts t u (from_first (t && u) us e)).1
 from_rest t (u ∷ us) e (suc k) = from_rest (t && u) us e k
 
 -- each test of a list of which all hold
@@ -24,8 +23,3 @@ all_hold [] e zero = refl
 all_hold [] e (suc k) = refl
 all_hold (t ∷ ts) e zero = from_first t ts e
 all_hold (t ∷ ts) e (suc k) = from_rest t ts e k
-
--- of two tests one of which holds
-pub or_cases : (t u : Bool) → (t || u) ≡ true → (t ≡ true) ⊎ (u ≡ true)
-or_cases true u e = inl refl
-or_cases false u e = inr e

@@ -7,10 +7,10 @@ use native.Mathlib.Nat.{le_trans, le_refl, le-add_right, mul-le-mul, eq-or-lt_of
 use native.Mathlib.Omega.{arith}
 use lib.Dec.{leb, ltb, eqb, lit≤, lit<, leb→le}
 use borrow.Author.Tests.{eq-eqb, eqb-true, eqb-false, ltb-true}
+use Rattle.std.proofs.lemmas.Bool.{and_parts, cond_both}
 use Rattle.component.specs.Component.{width_of}
 use Rattle.component.proofs.Widths.{width_le, width_some}
 use Rattle.laws.proofs.Table.{at}
-use Rattle.laws.proofs.Cases.{cond_both, and_left}
 use Rattle.fields.specs.declared.Descriptor.{Descriptor}
 use Rattle.fields.specs.Fields.{bits_at, mode_of, count_of, format_of, indices_of, three_indices_bit}
 use Rattle.fields.specs.Components.{is_colour, components_of, colour_width}
@@ -45,14 +45,14 @@ high_four k = go (is_colour k) (eqb k 9) (eqb k 10)
 indexed_le : (d : Descriptor) (k m : ℕ) → m ≤ 2 → indices_of d k * m ≤ high k
 unfolding indices_of
 indexed_le d k m h =
-    cond_both (λ x. x * m ≤ high k) (eqb k 10 && (eqb (count_of d 10) 1 && eqb (bits_at d three_indices_bit 2) 1))
-    (λ e. subst (λ (x : ℕ). 3 * m ≤ high x) (sym (eqb-true k 10 (and_left (eqb k 10) _ e))) (omega arith))
+    cond_both (eqb k 10 && (eqb (count_of d 10) 1 && eqb (bits_at d three_indices_bit 2) 1)) _ _ (λ x. x * m ≤ high k)
+    (λ e. subst (λ (x : ℕ). 3 * m ≤ high x) (sym (eqb-true k 10 (and_parts (eqb k 10) _ e).0)) (omega arith))
     (λ _. omega (arith, high_four k))
 
 mode_size_le : (d : Descriptor) (k m : ℕ) → m ≤ 3 → mode_size d k m ≤ high k
 mode_size_le d k m h =
-    cond_both (λ x. x ≤ high k) (eqb m 0) (λ _. zero-le)
-    (λ _. cond_both (λ x. x ≤ high k) (eqb m 1) (λ _. direct_le k (count_of d k) (format_of d k))
+    cond_both (eqb m 0) _ _ (λ x. x ≤ high k) (λ _. zero-le)
+    (λ _. cond_both (eqb m 1) _ _ (λ x. x ≤ high k) (λ _. direct_le k (count_of d k) (format_of d k))
     (λ _. indexed_le d k (m - 1) (omega arith)))
 
 size_le : (d : Descriptor) (k : ℕ) → size_of d k ≤ largest k
@@ -114,9 +114,10 @@ mul_some a b h k = mul-le-mul {n₁ = 1} {m₁ = 1} h k
 position_some : (d : Descriptor) (m : ℕ) → (m ≡ 0 → ⊥) → 1 ≤ mode_size d 9 m
 unfolding direct_of
 position_some d m h =
-    cond_both (λ x. 1 ≤ x) (eqb m 0) (λ e. absurd (h (eqb-true m 0 e)))
-    (λ _. cond_both (λ x. 1 ≤ x) (eqb m 1)
-    (λ _. mul_some (components_of 9 (count_of d 9)) (width_of (format_of d 9)) (components_some 9 (count_of d 9)) (width_some (format_of d 9)))
+    cond_both (eqb m 0) _ _ (λ x. 1 ≤ x) (λ e. absurd (h (eqb-true m 0 e)))
+    (λ _. cond_both (eqb m 1) _ _ (λ x. 1 ≤ x)
+    (λ _. mul_some (components_of 9 (count_of d 9)) (width_of (format_of d 9)) (components_some 9 (count_of d 9))
+    (width_some (format_of d 9)))
     (λ n. mul_some (indices_of d 9) (m - 1) (indices_some d 9) (omega (arith, eqb-false m 1 n))))
 
 size_some : (d : Descriptor) → (mode_of d 9 ≡ 0 → ⊥) → 1 ≤ size_of d 9
@@ -142,4 +143,4 @@ length_bounds d e =
 -- any length is at most 129
 pub length_le : (d : Descriptor) → length_of d ≤ 129
 unfolding length_of
-length_le d = cond_both (λ x. x ≤ 129) (eqb (refusal_of d) 0) (λ _. offset_le d 21 (lit< tt)) (λ _. zero-le)
+length_le d = cond_both (eqb (refusal_of d) 0) _ _ (λ x. x ≤ 129) (λ _. offset_le d 21 (lit< tt)) (λ _. zero-le)

@@ -1,10 +1,11 @@
 -- "VCD bits not named here are kept and ignored": descriptors that differ in such bits alone have the same layout.
 use mathlib.Core.Path.{◌≡◌, refl}
+use Rattle.std.specs.Prelude.{Result}
 use Prim.Native.Nat.{ℕ, zero, suc, min}
 use Rattle.laws.specs.Values.{up_to}
+use Rattle.refusal.specs.declared.Reason.{Reason}
 use Rattle.fields.specs.declared.Descriptor.{Descriptor}
 use Rattle.layout.specs.declared.Layout.{Layout}
-use Rattle.layout.specs.declared.Extent.{Extent}
 use Rattle.layout.specs.declared.Spot.{Spot}
 use Rattle.fields.specs.Fields.{Alike}
 use Rattle.fields.proofs.Ignored.{mode_alike, count_alike, format_alike, indices_alike}
@@ -42,16 +43,18 @@ module _ (d e : Descriptor) (a : Alike d e) where
   values_alike f g h (suc n) = rw (values_alike f g h n, h n)
 
   -- what `lay_out`, `measure` and `find` promise of one they promise of the other
-  laid_alike : (r : Layout) → Laid d r → Laid e r
+  laid_alike : (r : Result Layout Reason) → Laid d r → Laid e r
   laid_alike r l =
       record {
         answer_is = rw (← refusal_alike) l.answer_is;
-        length_is = rw (← length_alike) l.length_is;
-        sizes_is = rw (← refusal_alike, ← values_alike (size_of d) (size_of e) size_alike 21) l.sizes_is;
-        offsets_is = rw (← refusal_alike, ← values_alike (offset_of d) (offset_of e) offset_alike 21) l.offsets_is;
+        layout_is = rw (
+          ← length_alike,
+          ← values_alike (size_of d) (size_of e) size_alike 21,
+          ← values_alike (offset_of d) (offset_of e) offset_alike 21,
+        ) l.layout_is;
       }
 
-  measured_alike : (r : Extent) → Measured d r → Measured e r
+  measured_alike : (r : Result ℕ Reason) → Measured d r → Measured e r
   measured_alike r l =
       record { answer_is = rw (← refusal_alike) l.answer_is; length_is = rw (← length_alike) l.length_is }
 

@@ -12,15 +12,19 @@ use lib.ListN.{get_or}
 use lib.Pow.{shl_exact, shr-shr, mod-pow-add, pow_pos}
 use lib.Count.{ones, ones_cat}
 use borrow.Author.Tests.{lt-ltb, eqb-true, ne_eqb}
-use Rattle.laws.proofs.Cases.{is_true, order}
+use Rattle.std.proofs.lemmas.Bool.{cases_lt}
+use Rattle.laws.proofs.Cases.{is_true}
 use Rattle.laws.proofs.Table.{at}
 use Rattle.fields.specs.declared.Descriptor.{Descriptor}
 use Rattle.fields.specs.Fields.{bits_at, formats, mode_of, format_of}
 use Rattle.layout.specs.Sizes.{size_of, offset_of, unknown_at, any_unknown}
-use Rattle.layout.specs.Inner.{AbsentFrom}
 use Rattle.layout.proofs.Tests.{size_matrix, size_absent, unknown_absent}
 use Rattle.fields.proofs.Ignored.{low_bits}
 use Rattle.fields.proofs.Modes.{matrix_mode, fore_mode, texture_mode}
+
+-- no attribute from n on is present
+pub record AbsentFrom (d : Descriptor) (n : ℕ) : Type 0 where
+  pub absent : (k : ℕ) → n ≤ k → k < 21 → mode_of d k ≡ 0
 
 -- bits below t are clear where all of them are
 clear : (x t s w : ℕ) → s + w ≤ t → x % 2 ^ t ≡ 0 → x / 2 ^ s % 2 ^ w ≡ 0
@@ -59,7 +63,7 @@ module _ (d : Descriptor) where
 
   -- it has no bytes, a matrix or not
   pub size_none : (k : ℕ) → mode_of d k ≡ 0 → size_of d k ≡ 0
-  size_none k m = ⊎_elim (λ h. size_matrix d k h ∙ m) (λ h. size_absent d k h m) (order k 9)
+  size_none k m = ⊎_elim (λ h. size_matrix d k h ∙ m) (λ h. size_absent d k h m) (cases_lt k 9)
 
   or_false : (b : Bool) → (b || false) ≡ b
   or_false true = refl

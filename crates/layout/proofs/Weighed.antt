@@ -9,16 +9,17 @@ use Rattle.layout.specs.declared.parts.Part.{Part}
 use Rattle.fields.specs.Fields.{bits_at, modes, counts, formats, mode_of, count_of, format_of, indices_of}
 use Rattle.layout.specs.Sizes.{direct_of, size_of, unknown_at, any_unknown}
 use Rattle.fields.specs.Inner.{normal_indices}
-use Rattle.layout.specs.Inner.{AbsentFrom, WeighedBy, ForeOf, TexturesOf}
+use Rattle.layout.specs.Inner.{WeighedBy, ForeOf, TexturesOf}
 use Rattle.layout.proofs.Tests.{size_other, any_next}
-use Rattle.layout.proofs.Present.{size_none, any_absent, matrices_known, fore_absent}
+use Rattle.layout.proofs.Present.{AbsentFrom, size_none, any_absent, matrices_known, fore_absent}
 
 -- what attribute k adds
 record At (d : Descriptor) (k : ℕ) (r : Part) : Type 0 where
   pub bytes_are : r.bytes ≡ size_of d k
   pub unknown_is : r.unknown ≡ unknown_at d k
 
-weighed : (d : Descriptor) (k : ℕ) (r : Part) → 9 ≤ k → WeighedBy k (mode_of d k) (count_of d k) (format_of d k) (indices_of d k) r → At d k r
+weighed : (d : Descriptor) (k : ℕ) (r : Part) → 9 ≤ k → WeighedBy k (mode_of d k) (count_of d k) (format_of d k) (indices_of d k) r
+    → At d k r
 unfolding unknown_at
 weighed d k r h w = record { bytes_are = w.bytes_are ∙ sym (size_other d k h); unknown_is = w.unknown_is }
 
@@ -115,7 +116,9 @@ module _ (d : Descriptor) where
         colour0_is = sym (size_none d 11 m11);
         colour1_is = sym (size_none d 12 m12);
         texture0_is = ht.bytes_are;
-        unknown_is = any_next d 13 _ _ (u10 ∙ sym (any_absent d 10 m10) ∙ sym (any_absent d 11 m11) ∙ sym (any_absent d 12 m12)) ht.unknown_is;
+        unknown_is =
+            any_next d 13 _ _ (u10 ∙ sym (any_absent d 10 m10) ∙ sym (any_absent d 11 m11) ∙ sym (any_absent d 12 m12))
+            ht.unknown_is;
       }
 
   -- the other textures

@@ -1,17 +1,11 @@
 -- For the code's own functions: nothing here is part of what a layout is.
-use Rattle.std.specs.Prelude.{◌≡◌, Bool, false, cond, ℕ, ◌*◌, ◌/◌, ◌%◌, ◌^◌, ◌<◌, ◌≤◌, leb, eqb}
+use Rattle.std.specs.Prelude.{◌≡◌, Bool, false, cond, ℕ, ◌*◌, ◌/◌, ◌%◌, ◌^◌, leb, eqb}
 use Rattle.fields.specs.declared.Descriptor.{Descriptor}
-use Rattle.layout.specs.declared.measuring.Sum.{Sum}
 use Rattle.layout.specs.declared.parts.Part.{Part}
 use Rattle.layout.specs.declared.parts.Fore.{Fore}
 use Rattle.layout.specs.declared.parts.Textures.{Textures}
-use Rattle.fields.specs.Fields.{mode_of}
 use Rattle.fields.specs.Components.{is_colour}
-use Rattle.layout.specs.Sizes.{direct_of, index_width, size_of, offset_of, any_unknown}
-
--- the descriptor of five words
-abbrev pub asked : ℕ → ℕ → ℕ → ℕ → ℕ → Descriptor
-asked a b c e f = record { vcd0 = a; vcd1 = b; vat0 = c; vat1 = e; vat2 = f }
+use Rattle.layout.specs.Sizes.{direct_of, index_width, size_of, any_unknown}
 
 -- entry i of a table of half bytes
 abbrev pub half_byte : ℕ → ℕ → ℕ
@@ -35,10 +29,6 @@ pub record ForeOf (d : Descriptor) (r : Fore) : Type 0 where
   pub texture0_is : r.texture0 ≡ size_of d 13
   pub unknown_is : r.unknown ≡ any_unknown d 14
 
--- no attribute from n on is present
-pub record AbsentFrom (d : Descriptor) (n : ℕ) : Type 0 where
-  pub absent : (k : ℕ) → n ≤ k → k < 21 → mode_of d k ≡ 0
-
 -- the other textures, and whether any attribute is in an unknown format
 pub record TexturesOf (d : Descriptor) (r : Textures) : Type 0 where
   pub texture1_is : r.texture1 ≡ size_of d 14
@@ -49,8 +39,3 @@ pub record TexturesOf (d : Descriptor) (r : Textures) : Type 0 where
   pub texture6_is : r.texture6 ≡ size_of d 19
   pub texture7_is : r.texture7 ≡ size_of d 20
   pub unknown_is : r.unknown ≡ any_unknown d 21
-
--- the bytes of all attributes, and of the matrices among them
-pub record SumOf (d : Descriptor) (r : Sum) : Type 0 where
-  pub bytes_are : r.bytes ≡ offset_of d 21
-  pub matrices_are : r.matrices ≡ offset_of d 9

@@ -2,133 +2,58 @@
 // tables of the VCD and the VAT give them.
 #![tactic(auto)]
 
-mod measuring;
 mod parts;
+mod weights;
 
-ghost use Rattle.std.specs.Prelude.{◌≡◌, ◌%◌};
-ghost use Rattle.laws.specs.Values.{up_to};
-ghost use Rattle.layout.specs.Sizes.{size_of};
-ghost use Rattle.layout.specs.Answers.{Laid, Filled, Emptied};
-ghost use Rattle.layout.specs.Inner.{ForeOf, TexturesOf};
+ghost use Rattle.layout.specs.Answers.{Laid, Measured, SpotOf};
 
 use fields::Descriptor;
 use fields::attributes::COUNT;
-pub use measuring::{find, measure};
-use parts::{Fore, Textures};
 use refusal::Reason;
+use weights::Weights;
 
 // "A vertex has 1 to 129 bytes."
 pub const LARGEST_VERTEX: usize = 129;
 
-#[derive(Clone, Copy)]
-pub enum LayoutAnswer {
-    Accepted,
-    Refused(Reason),
-}
-
-// The bytes of each attribute and of all before it. A refused layout has length 0 and zeros.
-#[derive(Clone, Copy)]
+// The length of a vertex, the bytes of each attribute and the sum of those before it.
+// Two lists, not one of pairs: `Laid` names both, and C lends two, which get these whole.
+#[derive(Clone, Copy, Debug, PartialEq, Eq)]
 pub struct Layout {
-    pub answer: LayoutAnswer,
     pub length: u32,
     pub sizes: [u8; COUNT],
     pub offsets: [u8; COUNT],
 }
 
-// The length of a vertex alone. A refused one is 0.
-#[derive(Clone, Copy)]
-pub struct Extent {
-    pub answer: LayoutAnswer,
-    pub length: u32,
-}
-
-// The length of a vertex, 0 where it is refused, and where one attribute starts in it, refused or not.
-#[derive(Clone, Copy)]
+// The length of a vertex, or the reason why it has none, and where one attribute starts in it, which is told beside a reason too.
+#[derive(Clone, Copy, Debug, PartialEq, Eq)]
 pub struct Spot {
-    pub answer: LayoutAnswer,
-    pub length: u32,
+    pub length: Result<u32, Reason>,
     pub offset: u32,
 }
 
-// The bytes of each attribute, of those that are no matrices as they were weighed.
-fn sizes(d: Descriptor, fore: Fore, textures: Textures) -> [u8; COUNT]
-    requires { ForeOf d fore × TexturesOf d textures }
-    ensures { result ≡ up_to (size_of d) 21 }
-{
-    let vcd = d.vcd0;
-    [
-        ((vcd >> 0) % 2) as u8,
-        ((vcd >> 1) % 2) as u8,
-        ((vcd >> 2) % 2) as u8,
-        ((vcd >> 3) % 2) as u8,
-        ((vcd >> 4) % 2) as u8,
-        ((vcd >> 5) % 2) as u8,
-        ((vcd >> 6) % 2) as u8,
-        ((vcd >> 7) % 2) as u8,
-        ((vcd >> 8) % 2) as u8,
-        fore.position as u8,
-        fore.normal as u8,
-        fore.colour0 as u8,
-        fore.colour1 as u8,
-        fore.texture0 as u8,
-        textures.texture1 as u8,
-        textures.texture2 as u8,
-        textures.texture3 as u8,
-        textures.texture4 as u8,
-        textures.texture5 as u8,
-        textures.texture6 as u8,
-        textures.texture7 as u8,
-    ]
-}
-
-// The layout of a descriptor that is not refused, from the bytes of its attributes: the sums of those before each.
-fn fill(d: Descriptor, sizes: [u8; COUNT]) -> Layout
-    requires { sizes ≡ up_to (size_of d) 21 }
-    ensures { Filled d result }
-{
-    let mut offsets = [0u8; COUNT];
-    let mut total: u32 = 0;
-    let mut k: usize = 0;
-    while k < COUNT {
-        offsets[k] = total as u8;
-        total += sizes[k] as u32;
-        k += 1;
-    }
-    Layout {
-        answer: LayoutAnswer::Accepted,
-        length: total,
-        sizes,
-        offsets,
-    }
-}
-
-fn refuse(reason: Reason) -> Layout
-    ensures { Emptied reason result }
-{
-    Layout {
-        answer: LayoutAnswer::Refused(reason),
-        length: 0,
-        sizes: [0u8; COUNT],
-        offsets: [0u8; COUNT],
-    }
-}
-
-// The layout that a descriptor gives, or the reason why there is none.
-pub fn lay_out(d: Descriptor) -> Layout
+// The layout that a descriptor gives, or the reason why there is none: 9, then 10.
+pub fn lay_out(d: Descriptor) -> Result<Layout, Reason>
     ensures { Laid d result }
 {
-    let vcd0 = d.vcd0;
-    let vcd1 = d.vcd1;
-    let vat0 = d.vat0;
-    let vat1 = d.vat1;
-    let vat2 = d.vat2;
-    let fore = parts::weigh_fore(vcd0, vcd1, vat0, vat1, vat2);
-    let textures = parts::weigh_textures(vcd0, vcd1, vat0, vat1, vat2, fore.unknown);
-    if (vcd0 >> 9) % 4 == 0 {
-        return refuse(Reason::PositionAbsent);
+    let weights = Weights::of(d);
+    weights.check()?;
+    Ok(weights.lay_out())
+}
+
+// The length of a vertex, or the reason why it has none: 9, then 10.
+pub fn measure(d: Descriptor) -> Result<u32, Reason>
+    ensures { Measured d result }
+{
+    Weights::of(d).length()
+}
+
+// The length of a vertex, or the reason why it has none, and where attribute k starts in it; one above 20 starts where the last one ends.
+pub fn find(d: Descriptor, k: usize) -> Spot
+    ensures { SpotOf d k result }
+{
+    let weights = Weights::of(d);
+    Spot {
+        length: weights.length(),
+        offset: weights.before(k.min(COUNT)),
     }
-    if textures.unknown {
-        return refuse(Reason::UnknownFormat);
-    }
-    fill(d, sizes(d, fore, textures))
 }

@@ -1,11 +1,12 @@
 // The bytes of the attributes that are no matrices: each field is read at its own place, and absent groups need no look.
 ghost use Rattle.std.specs.Prelude.{◌≡◌, ◌+◌, ◌*◌, ◌<◌};
 ghost use Rattle.layout.specs.Sizes.{any_unknown};
-ghost use Rattle.layout.specs.Inner.{asked, half_byte, AbsentFrom, PartBy, WeighedBy, ForeOf, TexturesOf};
+ghost use Rattle.layout.specs.Inner.{half_byte, PartBy, WeighedBy, ForeOf, TexturesOf};
 
 use fields::{Descriptor, colour_width, normal_indices};
 
-// What one attribute adds: its bytes, and whether it is present in a format that is none.
+// What one attribute adds: its bytes, and whether it is present in a format that is none. Both, since `find` tells the place of an
+// attribute where the layout is refused too.
 #[derive(Clone, Copy)]
 pub struct Part {
     pub bytes: u32,
@@ -13,6 +14,8 @@ pub struct Part {
 }
 
 // The bytes of the attributes in group 0 of the VAT, and whether one of them is present in a format that is none.
+// `Fore` and `Textures` have both too: `find` tells a place where the layout is refused.
+// Fields and no arrays: sizes that were just written one by one and are then read by wide loads are waited for.
 #[derive(Clone, Copy)]
 pub struct Fore {
     pub position: u32,
@@ -37,6 +40,7 @@ pub struct Textures {
 }
 
 // The entry of a table of sixteen half bytes, by a format and a count bit.
+// Mode, count and format are bits just read and used once: a struct that keeps their bounds would be built at all twelve calls.
 fn entry(table: u64, count: u32, format: u32) -> u32
     requires { (count < 2) × (format < 8) }
     ensures { result ≡ half_byte table (2 * format + count) }
@@ -44,7 +48,8 @@ fn entry(table: u64, count: u32, format: u32) -> u32
     ((table >> (4 * (2 * format + count))) % 16) as u32
 }
 
-// The bytes of an attribute by its mode, and whether it is present in no format.
+// The bytes of an attribute by its mode, and whether it is present in no format. The mode stays a number of two bits: a match on a `Mode`
+// becomes a jump through a table for each attribute, and is slower.
 fn by_mode(mode: u32, direct: u32, indices: u32, none: bool) -> Part
     requires { (mode < 4) × (indices < 4) }
     ensures { PartBy mode direct indices none result }
@@ -68,6 +73,8 @@ fn by_mode(mode: u32, direct: u32, indices: u32, none: bool) -> Part
 }
 
 // A position of two or three components.
+// One function for each kind: their tables differ, a normal has three of each and indices, and a colour has no count.
+#[tactic(auto, using(crate::proofs::Packed::position_entry))]
 fn position(mode: u32, count: u32, format: u32) -> Part
     requires { (mode < 4) × (count < 2) × (format < 8) }
     ensures { WeighedBy 9 mode count format 1 result }
@@ -81,6 +88,7 @@ fn position(mode: u32, count: u32, format: u32) -> Part
 }
 
 // A normal of three or nine components, or of one or three indices.
+#[tactic(auto, using(crate::proofs::Packed::normal_entry))]
 fn normal(mode: u32, count: u32, format: u32, indices: u32) -> Part
     requires { (mode < 4) × (count < 2) × (format < 8) × (indices < 4) }
     ensures { WeighedBy 10 mode count format indices result }
@@ -94,6 +102,7 @@ fn normal(mode: u32, count: u32, format: u32, indices: u32) -> Part
 }
 
 // A colour, whatever its count bit.
+#[tactic(auto, unfolding(crate::specs::Sizes::direct_of))]
 fn colour(mode: u32, format: u32) -> Part
     requires { mode < 4 }
     ensures { WeighedBy 11 mode 0 format 1 result }
@@ -102,6 +111,7 @@ fn colour(mode: u32, format: u32) -> Part
 }
 
 // A texture of one or two components.
+#[tactic(auto, using(crate::proofs::Packed::texture_entry))]
 fn texture(mode: u32, count: u32, format: u32) -> Part
     requires { (mode < 4) × (count < 2) × (format < 8) }
     ensures { WeighedBy 13 mode count format 1 result }
@@ -115,12 +125,14 @@ fn texture(mode: u32, count: u32, format: u32) -> Part
 }
 
 // The attributes in group 0 of the VAT; normal and colours are not looked at where their six bits are clear.
-pub fn weigh_fore(vcd0: u32, vcd1: u32, vat0: u32, vat1: u32, vat2: u32) -> Fore
-    ensures { ForeOf (asked vcd0 vcd1 vat0 vat1 vat2) result }
+pub fn weigh_fore(d: Descriptor) -> Fore
+    ensures { ForeOf d result }
 {
-    let p = position((vcd0 >> 9) % 4, (vat0 >> 0) % 2, (vat0 >> 1) % 8);
-    let t = texture((vcd1 >> 0) % 4, (vat0 >> 21) % 2, (vat0 >> 22) % 8);
-    if (vcd0 >> 11) % 64 == 0 {
+    let vcd = d.vcd0;
+    let vat = d.vat0;
+    let p = position((vcd >> 9) % 4, (vat >> 0) % 2, (vat >> 1) % 8);
+    let t = texture((d.vcd1 >> 0) % 4, (vat >> 21) % 2, (vat >> 22) % 8);
+    if (vcd >> 11) % 64 == 0 {
         return Fore {
             position: p.bytes,
             normal: 0,
@@ -130,10 +142,10 @@ pub fn weigh_fore(vcd0: u32, vcd1: u32, vat0: u32, vat1: u32, vat2: u32) -> Fore
             unknown: p.unknown | t.unknown,
         };
     }
-    let indices = normal_indices(vat0);
-    let n = normal((vcd0 >> 11) % 4, (vat0 >> 9) % 2, (vat0 >> 10) % 8, indices);
-    let c = colour((vcd0 >> 13) % 4, (vat0 >> 14) % 8);
-    let e = colour((vcd0 >> 15) % 4, (vat0 >> 18) % 8);
+    let indices = normal_indices(vat);
+    let n = normal((vcd >> 11) % 4, (vat >> 9) % 2, (vat >> 10) % 8, indices);
+    let c = colour((vcd >> 13) % 4, (vat >> 14) % 8);
+    let e = colour((vcd >> 15) % 4, (vat >> 18) % 8);
     Fore {
         position: p.bytes,
         normal: n.bytes,
@@ -144,54 +156,34 @@ pub fn weigh_fore(vcd0: u32, vcd1: u32, vat0: u32, vat1: u32, vat2: u32) -> Fore
     }
 }
 
-// No texture past the first.
-fn absent_textures(d: Descriptor, found: bool) -> Textures
-    requires { (found ≡ any_unknown d 14) × AbsentFrom d 14 }
+// The textures past the first, after attributes of which some may be in no format; they are not looked at where their bits are clear.
+// One by one: the fields stand at no one step (0, 9, 18, 27, then 5, 14, 23).
+pub fn weigh_textures(d: Descriptor, found: bool) -> Textures
+    requires { found ≡ any_unknown d 14 }
     ensures { TexturesOf d result }
 {
-    Textures {
-        texture1: 0,
-        texture2: 0,
-        texture3: 0,
-        texture4: 0,
-        texture5: 0,
-        texture6: 0,
-        texture7: 0,
-        unknown: found,
+    let vcd = d.vcd1;
+    let vat = d.vat1;
+    let rest = d.vat2;
+    if (vcd >> 2) % 0x4000 == 0 {
+        return Textures {
+            texture1: 0,
+            texture2: 0,
+            texture3: 0,
+            texture4: 0,
+            texture5: 0,
+            texture6: 0,
+            texture7: 0,
+            unknown: found,
+        };
     }
-}
-
-// The textures past the first, after attributes of which some may be in no format; they are not looked at where their bits are clear.
-pub fn weigh_textures(
-    vcd0: u32,
-    vcd1: u32,
-    vat0: u32,
-    vat1: u32,
-    vat2: u32,
-    found: bool,
-) -> Textures
-    requires { found ≡ any_unknown (asked vcd0 vcd1 vat0 vat1 vat2) 14 }
-    ensures { TexturesOf (asked vcd0 vcd1 vat0 vat1 vat2) result }
-{
-    if (vcd1 >> 2) % 0x4000 == 0 {
-        return absent_textures(
-            Descriptor {
-                vcd0,
-                vcd1,
-                vat0,
-                vat1,
-                vat2,
-            },
-            found,
-        );
-    }
-    let b = texture((vcd1 >> 2) % 4, (vat1 >> 0) % 2, (vat1 >> 1) % 8);
-    let c = texture((vcd1 >> 4) % 4, (vat1 >> 9) % 2, (vat1 >> 10) % 8);
-    let e = texture((vcd1 >> 6) % 4, (vat1 >> 18) % 2, (vat1 >> 19) % 8);
-    let f = texture((vcd1 >> 8) % 4, (vat1 >> 27) % 2, (vat1 >> 28) % 8);
-    let g = texture((vcd1 >> 10) % 4, (vat2 >> 5) % 2, (vat2 >> 6) % 8);
-    let h = texture((vcd1 >> 12) % 4, (vat2 >> 14) % 2, (vat2 >> 15) % 8);
-    let i = texture((vcd1 >> 14) % 4, (vat2 >> 23) % 2, (vat2 >> 24) % 8);
+    let b = texture((vcd >> 2) % 4, (vat >> 0) % 2, (vat >> 1) % 8);
+    let c = texture((vcd >> 4) % 4, (vat >> 9) % 2, (vat >> 10) % 8);
+    let e = texture((vcd >> 6) % 4, (vat >> 18) % 2, (vat >> 19) % 8);
+    let f = texture((vcd >> 8) % 4, (vat >> 27) % 2, (vat >> 28) % 8);
+    let g = texture((vcd >> 10) % 4, (rest >> 5) % 2, (rest >> 6) % 8);
+    let h = texture((vcd >> 12) % 4, (rest >> 14) % 2, (rest >> 15) % 8);
+    let i = texture((vcd >> 14) % 4, (rest >> 23) % 2, (rest >> 24) % 8);
     Textures {
         texture1: b.bytes,
         texture2: c.bytes,

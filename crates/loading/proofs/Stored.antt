@@ -4,6 +4,7 @@ use mathlib.Core.List.{List}
 use Prim.Native.Nat.{ℕ, ◌+◌, ◌-◌, ◌*◌, ◌/◌, ◌%◌, ◌<◌, ◌≤◌}
 use native.Mathlib.Omega.{arith}
 use lib.ListN.{length, get_or, take, drop}
+use lib.Seq.{get_or-drop}
 use Rattle.octets.specs.BigEndian.{big_endian, Octets}
 use Rattle.octets.proofs.Number.{two_bytes, three_bytes}
 use Rattle.command.specs.Command.{load_bp, load_xf}
@@ -11,9 +12,17 @@ use Rattle.command.specs.Look.{xf_count, xf_words, xf_address}
 use Rattle.command.proofs.Decided.{looks_bp, looks_xf}
 use Rattle.effect.specs.Effect.{cp_after, bp_after, xf_after, vertex_after, draw_after, loaded_bp, loaded_xf}
 use Rattle.walk.specs.Flat.{core_after}
-use Rattle.walk.specs.Moves.{MovesXf, shut}
-use Rattle.walk.proofs.Walks.{rest_at, first_at, there, One, moved_one}
+use Rattle.walk.specs.Moves.{MovesBp, MovesXf, shut}
+use Rattle.walk.proofs.Walks.{first_at, there, One, moves_none, moves_then, moved_one}
 use Rattle.loading.specs.Inner.{HeadOf}
+
+-- ---- no load
+
+pub bp_none : {bytes : List ℕ} {from : ℕ} {bp : List ℕ} {most : ℕ} → MovesBp bytes from bp most 0 from bp
+bp_none = record { any = λ _ _ _. moves_none }
+
+pub xf_none : {bytes : List ℕ} {from : ℕ} {xf : List ℕ} {most : ℕ} → MovesXf bytes from xf most 0 from xf
+xf_none = record { any = λ _ _ _. moves_none }
 
 -- ---- 61
 
@@ -24,7 +33,8 @@ low : (a b c d : ℕ) → b < 256 → c < 256 → d < 256 → (((a * 256 + b) * 
 low a b c d p q r = omega arith
 
 module _ (bytes : List ℕ) (o : Octets bytes) (at : ℕ) where
-  bp_after_lem : (r n : ℕ) (u bp cp xf buffer : List ℕ) → shut cp (loaded_bp bp r n) xf buffer ≡ core_after (load_bp r n) u (shut cp bp xf buffer)
+  bp_after_lem : (r n : ℕ) (u bp cp xf buffer : List ℕ)
+      → shut cp (loaded_bp bp r n) xf buffer ≡ core_after (load_bp r n) u (shut cp bp xf buffer)
   unfolding cp_after bp_after xf_after vertex_after draw_after
   bp_after_lem r n u bp cp xf buffer = refl
 
@@ -39,11 +49,11 @@ module _ (bytes : List ℕ) (o : Octets bytes) (at : ℕ) where
       (o (at + 4)) in
       let n : word % 16777216 ≡ big_endian b 2 3 =
       ap (λ (y : ℕ). y % 16777216) w ∙ low (x 1) (x 2) (x 3) (x 4) (o (at + 2)) (o (at + 3)) (o (at + 4))
-      ∙ sym (three_bytes b 2 ∙ rw (rest_at bytes at 2, rest_at bytes at 3, rest_at bytes at 4)) in
+      ∙ sym (three_bytes b 2 ∙ rw (get_or-drop at bytes 2 0, get_or-drop at bytes 3 0, get_or-drop at bytes 4 0)) in
       record {
         command = load_bp (word / 16777216) (word % 16777216);
         memory = 0;
-        found = looks_bp b (length b) cp (first_at bytes at ∙ op) (there bytes at 5 h) ∙ rw (rest_at bytes at 1, ← r, ← n);
+        found = looks_bp b (length b) cp (first_at bytes at ∙ op) (there bytes at 5 h) ∙ rw (get_or-drop at bytes 1 0, ← r, ← n);
         after = rw e (bp_after_lem (word / 16777216) (word % 16777216) (take 5 b) bp cp xf buffer);
       }
 
@@ -56,15 +66,16 @@ pub head_of : (bytes : List ℕ) (at : ℕ) → at ≤ length bytes → get_or b
 unfolding xf_words xf_address
 head_of bytes at i o words address w a l =
     let p : List ℕ = drop at bytes in
-    let ws : xf_words p ≡ words = rw (two_bytes p 1, rest_at bytes at 1, rest_at bytes at 2) (sym w) in
-    let ad : xf_address p ≡ address = rw (two_bytes p 3, rest_at bytes at 3, rest_at bytes at 4) (sym a) in
+    let ws : xf_words p ≡ words = rw (two_bytes p 1, get_or-drop at bytes 1 0, get_or-drop at bytes 2 0) (sym w) in
+    let ad : xf_address p ≡ address = rw (two_bytes p 3, get_or-drop at bytes 3 0, get_or-drop at bytes 4 0) (sym a) in
     record {
       here = i;
       few = omega arith;
       found = λ cp h. rw (← ws, ← ad) (looks_xf p (length p) cp (first_at bytes at ∙ o) (omega arith) (omega arith));
     }
 
-xf_after_lem : (w a : ℕ) (u bp cp xf buffer : List ℕ) → shut cp bp (loaded_xf xf u w a) buffer ≡ core_after (load_xf w a) u (shut cp bp xf buffer)
+xf_after_lem : (w a : ℕ) (u bp cp xf buffer : List ℕ)
+    → shut cp bp (loaded_xf xf u w a) buffer ≡ core_after (load_xf w a) u (shut cp bp xf buffer)
 unfolding cp_after bp_after xf_after vertex_after draw_after
 xf_after_lem w a u bp cp xf buffer = refl
 
@@ -85,3 +96,9 @@ one_xf bytes at words address h l {xf} e =
             after = rw (rw z at e) (xf_after_lem words address (take n (drop at bytes)) bp cp xf buffer);
           });
     }
+
+-- loads so far, and then one or none
+pub xf_then : {bytes : List ℕ} {from : ℕ} {xf : List ℕ} {most n place : ℕ} {xf' : List ℕ} {one to : ℕ} {xf'' : List ℕ}
+    → MovesXf bytes from xf most n place xf' → MovesXf bytes place xf' 1 one to xf'' → n < most
+    → MovesXf bytes from xf most (n + one) to xf''
+xf_then w v h = record { any = λ cp bp buffer. moves_then (w.any cp bp buffer) (v.any cp bp buffer) (omega arith) }

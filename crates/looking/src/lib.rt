@@ -1,25 +1,15 @@
 // What the stream goes on with: the first byte decides the class of a command; draw heads and vertices are recognised by their layout.
 #![tactic(auto)]
 
-ghost use Rattle.std.specs.Prelude.{◌≡◌, cond, ◌-◌, ◌≤◌, ltb};
-ghost use Rattle.refusal.specs.Number.{number};
-ghost use Rattle.command.specs.Command.{meaning, waiting, refused};
+ghost use Rattle.std.specs.Prelude.{◌≡◌};
+ghost use Rattle.command.specs.Command.{meaning};
 ghost use Rattle.command.specs.Look.{look_head, look_vertex, descriptor_of, look_of, vertex_bytes};
 
-use command::{Command, Draw, Next, look_bp, look_call, look_cp, look_indexed, look_xf, unit};
+use command::{
+    Command, Draw, StepAnswer, look_bp, look_call, look_cp, look_indexed, look_xf, unit,
+};
 use fields::Descriptor;
-use layout::LayoutAnswer;
 use refusal::Reason;
-
-// A refusal that the first bytes decide, so many of them: it waits for those that it lacks.
-fn decided(count: u32, deciding: u32, reason: Reason) -> Next
-    ensures { meaning result ≡ cond (ltb count deciding) (waiting (deciding - count)) (refused (number reason)) }
-{
-    if count < deciding {
-        return Next::Waiting(deciding - count);
-    }
-    Next::Refused(reason)
-}
 
 // The VCD and the VAT of a format, as the registers stand; a format counts modulo 8.
 fn descriptor(cp: &[u32; 60], format: u8) -> Descriptor
@@ -35,45 +25,38 @@ fn descriptor(cp: &[u32; 60], format: u8) -> Descriptor
     }
 }
 
-// 80 to BF.
-fn look_head(op: u8, b: [u8; 9], count: u32, cp: &[u32; 60]) -> Next
-    requires { 1 ≤ count }
+// 80 to BF. The opcode decides 9 and 10.
+fn look_head(op: u8, b: [u8; 9], count: u32, cp: &[u32; 60]) -> StepAnswer
     ensures { meaning result ≡ look_head op b count cp.now }
 {
-    let measured = layout::measure(descriptor(cp, op % 8));
-    let answer = measured.answer;
-    match answer {
-        LayoutAnswer::Refused(reason) => decided(count, 1, reason),
-        LayoutAnswer::Accepted => {
-            let command = Command::DrawHead {
-                primitive: op / 8 % 8,
-                format: op % 8,
-                count: octets::half(b[1], b[2]),
-            };
-            unit(count, 3, command, 0)
-        }
+    if let Err(reason) = layout::measure(descriptor(cp, op % 8)) {
+        return StepAnswer::Refused(reason);
     }
+    let command = Command::DrawHead {
+        primitive: op / 8 % 8,
+        format: op % 8,
+        count: octets::half(b[1], b[2]),
+    };
+    unit(count, 3, command, 0)
 }
 
-// A vertex of an open draw.
-fn look_vertex(count: u32, cp: &[u32; 60], format: u8) -> Next
+// A vertex of an open draw. 9 and 10 need no byte.
+fn look_vertex(count: u32, cp: &[u32; 60], format: u8) -> StepAnswer
     ensures { meaning result ≡ look_vertex count cp.now format }
 {
-    let measured = layout::measure(descriptor(cp, format));
-    let answer = measured.answer;
-    let length = measured.length;
-    match answer {
-        LayoutAnswer::Refused(reason) => decided(count, 0, reason),
-        LayoutAnswer::Accepted => unit(count, length, Command::Vertex, 0),
+    match layout::measure(descriptor(cp, format)) {
+        Err(reason) => StepAnswer::Refused(reason),
+        Ok(length) => unit(count, length, Command::Vertex, 0),
     }
 }
 
 // The next command: where no byte is there, one is lacking; the first decides its class.
-fn look_command(b: [u8; 9], count: u32, cp: &[u32; 60]) -> Next
+#[tactic(auto, unfolding(command::specs::Look::look_of, command::specs::Look::by_opcode))]
+fn look_command(b: [u8; 9], count: u32, cp: &[u32; 60]) -> StepAnswer
     ensures { meaning result ≡ look_of b count cp.now Draw.Closed }
 {
     if count == 0 {
-        return Next::Waiting(1);
+        return StepAnswer::Waiting(1);
     }
     let op = b[0];
     match op {
@@ -86,7 +69,7 @@ fn look_command(b: [u8; 9], count: u32, cp: &[u32; 60]) -> Next
         0x40 => look_call(b, count),
         0x61 => look_bp(b, count),
         0x80..=0xBF => look_head(op, b, count, cp),
-        _ => Next::Refused(Reason::UnknownOpcode),
+        _ => StepAnswer::Refused(Reason::UnknownOpcode),
     }
 }
 
@@ -94,20 +77,16 @@ fn look_command(b: [u8; 9], count: u32, cp: &[u32; 60]) -> Next
 pub fn vertex_bytes(cp: &[u32; 60], format: u8) -> u32
     ensures { result ≡ vertex_bytes cp.now format }
 {
-    let measured = layout::measure(descriptor(cp, format));
-    measured.length
+    layout::measure(descriptor(cp, format)).unwrap_or(0)
 }
 
 // What the stream goes on with: its first nine bytes, zeros past the last, and how many there are in all.
-pub fn look(b: [u8; 9], count: u32, cp: &[u32; 60], draw: Draw) -> Next
+#[tactic(auto, unfolding(command::specs::Look::look_of))]
+pub fn look(b: [u8; 9], count: u32, cp: &[u32; 60], draw: Draw) -> StepAnswer
     ensures { meaning result ≡ look_of b count cp.now draw }
 {
     match draw {
         Draw::Closed => look_command(b, count, cp),
-        Draw::Open {
-            primitive: _,
-            format,
-            left: _,
-        } => look_vertex(count, cp, format),
+        Draw::Open { format, .. } => look_vertex(count, cp, format),
     }
 }

@@ -7,7 +7,7 @@ use native.Mathlib.Omega.{arith}
 use lib.Dec.{leb, eqb, lit≤}
 use lib.ListN.{length}
 use borrow.Author.Tests.{eqb-true, eqb-false, leb-true, eq-eqb, ne_eqb, le-leb}
-use Rattle.laws.proofs.Cases.{and_left, and_right, cond_both}
+use Rattle.std.proofs.lemmas.Bool.{and_parts, cond_both}
 use Rattle.command.specs.Look.{xf_count}
 use Rattle.fifo.specs.declared.Fifo.{Fifo}
 use Rattle.fifo.specs.Window.{Ready, ready_by}
@@ -47,15 +47,15 @@ module _ (s : State) (ring : ℕ) where
       let three = held (leb 129 (length s.buffer)) _ 2 two.1 in
       let four = missed (eqb (read_bit f.control) 0) _ 3 three.1 in
       let five = held (eqb (link_bit f.control) 0) 0 4 four.1 in
-      let rest = and_right (ready_by f ring) (control_fits f.control && registers_fit s.cp s.bp s.draw) one.0 in
-      let fit = and_right (control_fits f.control) (registers_fit s.cp s.bp s.draw) rest in
-      let more = and_right (bp_fits s.bp) (cp_fits s.cp && draw_fits s.draw) fit in
+      let rest = (and_parts (ready_by f ring) (control_fits f.control && registers_fit s.cp s.bp s.draw) one.0).1 in
+      let fit = (and_parts (control_fits f.control) (registers_fit s.cp s.bp s.draw) rest).1 in
+      let more = (and_parts (bp_fits s.bp) (cp_fits s.cp && draw_fits s.draw) fit).1 in
       record {
-        ready = ready_true f ring (and_left (ready_by f ring) (control_fits f.control && registers_fit s.cp s.bp s.draw) one.0);
-        control = and_left (control_fits f.control) (registers_fit s.cp s.bp s.draw) rest;
-        bp = and_left (bp_fits s.bp) (cp_fits s.cp && draw_fits s.draw) fit;
-        cp = and_left (cp_fits s.cp) (draw_fits s.draw) more;
-        draw = and_right (cp_fits s.cp) (draw_fits s.draw) more;
+        ready = ready_true f ring (and_parts (ready_by f ring) (control_fits f.control && registers_fit s.cp s.bp s.draw) one.0).0;
+        control = (and_parts (control_fits f.control) (registers_fit s.cp s.bp s.draw) rest).0;
+        bp = (and_parts (bp_fits s.bp) (cp_fits s.cp && draw_fits s.draw) fit).0;
+        cp = (and_parts (cp_fits s.cp) (draw_fits s.draw) more).0;
+        draw = (and_parts (cp_fits s.cp) (draw_fits s.draw) more).1;
         xf = eqb-true (length s.xf) xf_count two.0;
         buffer = leb-true 129 (length s.buffer) three.0;
         enabled = eqb-false (read_bit f.control) 0 four.0;
@@ -82,11 +82,11 @@ module _ (s : State) (ring : ℕ) where
   unfolding gate_by
   gate_most =
       let f : Fifo = s.fifo in
-      cond_both (λ x. x ≤ 5) (state_fits f s.cp s.bp s.draw ring)
-      (λ _. cond_both (λ x. x ≤ 5) (eqb (length s.xf) xf_count)
-      (λ _. cond_both (λ x. x ≤ 5) (leb 129 (length s.buffer))
-      (λ _. cond_both (λ x. x ≤ 5) (eqb (read_bit f.control) 0) (λ _. lit≤ tt)
-      (λ _. cond_both (λ x. x ≤ 5) (eqb (link_bit f.control) 0) (λ _. lit≤ tt) (λ _. lit≤ tt)))
+      cond_both (state_fits f s.cp s.bp s.draw ring) _ _ (λ x. x ≤ 5)
+      (λ _. cond_both (eqb (length s.xf) xf_count) _ _ (λ x. x ≤ 5)
+      (λ _. cond_both (leb 129 (length s.buffer)) _ _ (λ x. x ≤ 5)
+      (λ _. cond_both (eqb (read_bit f.control) 0) _ _ (λ x. x ≤ 5) (λ _. lit≤ tt)
+      (λ _. cond_both (eqb (link_bit f.control) 0) _ _ (λ x. x ≤ 5) (λ _. lit≤ tt) (λ _. lit≤ tt)))
       (λ _. lit≤ tt))
       (λ _. lit≤ tt))
       (λ _. lit≤ tt)

@@ -1,14 +1,13 @@
 -- "Step and run test 1 to 5 whole", and so does a look: the order of the table, each part of 1 under its own name.
-use Rattle.std.specs.Prelude.{Bool, true, cond, ◌&&◌, List, [], ◌∷◌, ℕ, ◌/◌, ◌%◌, ◌^◌, leb, ltb, eqb, length, take, drop}
-use Rattle.refusal.specs.Number.{number}
+use Rattle.std.specs.Prelude.{Bool, true, cond, ◌&&◌, List, [], ◌∷◌, ℕ, ◌/◌, ◌%◌, ◌^◌, leb, ltb, eqb, length, take, drop, Result}
+use Rattle.refusal.specs.Outcome.{answer_of}
+use Rattle.refusal.specs.declared.Reason.{Reason}
 use Rattle.command.specs.declared.Draw.{Draw}
 use Rattle.command.specs.declared.Draw.TheVariants.{Closed, Open}
 use Rattle.places.specs.Places.{base_place, stride_place}
 use Rattle.command.specs.Look.{xf_count, largest_vertex}
 use Rattle.fifo.specs.declared.Fifo.{Fifo}
 use Rattle.fifo.specs.Window.{ready_by}
-use Rattle.machine.specs.declared.Gate.{Gate}
-use Rattle.machine.specs.declared.Gate.TheVariants.{Passed, Refused}
 use Rattle.machine.specs.State.{State}
 
 -- every number of a list is below a limit
@@ -72,6 +71,5 @@ abbrev pub gate_of : State → ℕ → ℕ
 gate_of s ring = gate_by s.fifo s.cp s.bp s.draw ring (length s.xf) (length s.buffer)
 
 -- the numbers of the gate's answer
-abbrev pub meaning_of_gate : Gate → List ℕ
-meaning_of_gate Passed = 0 ∷ []
-meaning_of_gate (Refused r) = number r ∷ []
+abbrev pub meaning_of_gate : Result (Unit {0}) Reason → List ℕ
+meaning_of_gate = answer_of (λ _. [])

@@ -9,7 +9,7 @@ ghost use Rattle.registers.specs.Registers.{read_answer};
 ghost use Rattle.machine.specs.State.{fresh_machine, drawing_of};
 
 use command::Draw;
-use fifo::{Fifo, Reading};
+use fifo::Fifo;
 use refusal::Reason;
 pub use tests::{pass, registers_fit};
 
@@ -28,14 +28,8 @@ pub struct Machine {
     pub registers: Registers,
 }
 
-// Whether the state and the lent memory pass refusals 1 to 5.
-#[derive(Clone, Copy)]
-pub enum Gate {
-    Passed,
-    Refused(Reason),
-}
-
 // "Every BP register of the fresh machine is named": 256 zero words with place FE then set.
+#[tactic(auto, unfolding(crate::specs::State::fresh_machine))]
 pub fn fresh() -> Machine
     ensures { result ≡ fresh_machine }
 {
@@ -56,16 +50,12 @@ pub fn fresh() -> Machine
 fn drawing(draw: Draw) -> bool
     ensures { result ≡ drawing_of draw }
 {
-    match draw {
-        Draw::Closed => false,
-        Draw::Open { .. } => true,
-    }
+    matches!(draw, Draw::Open { .. })
 }
 
 // A hardware register of the machine; status bit 3 goes by the open draw.
-pub fn read_register(fifo: Fifo, registers: Registers, offset: u16) -> Reading
+pub fn read_register(fifo: Fifo, registers: Registers, offset: u16) -> Result<u16, Reason>
     ensures { meaning_of_reading result ≡ read_answer fifo (drawing_of registers.draw) offset }
 {
-    let draw = registers.draw;
-    registers::read_register(fifo, drawing(draw), offset)
+    registers::read_register(fifo, drawing(registers.draw), offset)
 }

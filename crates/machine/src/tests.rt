@@ -1,49 +1,39 @@
 // Refusals 1 to 5, in their order.
-ghost use Rattle.std.specs.Prelude.{◌≡◌, cond, ◌+◌, ◌≤◌, length, take, drop, [], ◌∷◌};
-ghost use Rattle.refusal.specs.Number.{number};
-ghost use Rattle.machine.specs.Joined.{Joins};
+ghost use Rattle.std.specs.Prelude.{◌≡◌, [], ◌∷◌, fold, bit_or};
 ghost use Rattle.machine.specs.Gate.{cp_fits, bp_fits, draw_fits, registers_fit, state_fits, gate_by, meaning_of_gate};
 
-use crate::Gate;
 use command::{Draw, LARGEST_VERTEX};
 use fifo::Fifo;
 use refusal::Reason;
 
-// The XF words, as the length of a slice.
-const XF_LENGTH: usize = places::XF_COUNT as usize;
-
-// n values from a place on, joined bit by bit: below a power of two exactly where each of them is.
-fn join(values: &[u32], from: usize, n: usize) -> u32
-    requires { from + n ≤ length values.now }
-    ensures { Joins result (take n (drop from values.now)) }
+// Values joined bit by bit: below a power of two exactly where each of them is.
+fn join(values: &[u32]) -> u32
+    ensures { result ≡ fold bit_or 0 values.now }
 {
-    let mut joined: u32 = 0;
-    let mut i: usize = 0;
-    while i < n {
-        joined = joined | values[from + i];
-        i += 1;
-    }
-    joined
+    values.iter().fold(0, |joined, value| joined | value)
 }
 
 // Bases of 26 bits, strides of 8.
 fn cp_fits(cp: &[u32; 60]) -> bool
     ensures { result ≡ cp_fits cp.now }
 {
-    (join(cp, places::BASES, 16) < 0x400_0000) & (join(cp, places::STRIDES, 16) < 256)
+    let bases = &cp[places::BASES..places::BASES + 16];
+    let strides = &cp[places::STRIDES..places::STRIDES + 16];
+    (join(bases) < 0x400_0000) & (join(strides) < 256)
 }
 
-// BP registers of 24 bits. For the 256 that there are the loop's length is a constant, which the compiler makes use of.
+// BP registers of 24 bits. For the 256 that there are the slice's length is a constant, which the compiler makes use of.
 fn bp_fits(bp: &[u32]) -> bool
     ensures { result ≡ bp_fits bp.now }
 {
     if bp.len() == 256 {
-        return join(bp, 0, 256) < 0x100_0000;
+        return join(&bp[..256]) < 0x100_0000;
     }
-    join(bp, 0, bp.len()) < 0x100_0000
+    join(bp) < 0x100_0000
 }
 
 // An open draw has a vertex left, and a primitive and a format of three bits.
+#[tactic(auto, unfolding(crate::specs::Gate::draw_fits))]
 fn draw_fits(draw: Draw) -> bool
     ensures { result ≡ draw_fits draw }
 {
@@ -58,6 +48,7 @@ fn draw_fits(draw: Draw) -> bool
 }
 
 // The part of 1 that is about the registers and the draw: BP registers of 24 bits, bases, strides, the draw's numbers.
+#[tactic(auto, unfolding(crate::specs::Gate::registers_fit))]
 pub fn registers_fit(cp: &[u32; 60], bp: &[u32], draw: Draw) -> bool
     ensures { result ≡ registers_fit cp.now bp.now draw }
 {
@@ -65,26 +56,15 @@ pub fn registers_fit(cp: &[u32; 60], bp: &[u32], draw: Draw) -> bool
 }
 
 // The whole of 1.
+#[tactic(auto, unfolding(crate::specs::Gate::state_fits, crate::specs::Gate::control_fits))]
 fn state_fits(fifo: Fifo, cp: &[u32; 60], bp: &[u32], draw: Draw, ring: usize) -> bool
     ensures { result ≡ state_fits fifo cp.now bp.now draw ring }
 {
     fifo::ready(fifo, ring) & ((fifo.control < 64) & registers_fit(cp, bp, draw))
 }
 
-// The first of two refusals that applies.
-fn first_of(a: bool, first: Reason, b: bool, second: Reason) -> Gate
-    ensures { meaning_of_gate result ≡ cond a (number first) (cond b (number second) 0) ∷ [] }
-{
-    if a {
-        return Gate::Refused(first);
-    }
-    if b {
-        return Gate::Refused(second);
-    }
-    Gate::Passed
-}
-
 // The first of 1 to 5 that applies, for a ring, XF words and a vertex buffer of such lengths.
+#[tactic(auto, unfolding(crate::specs::Gate::gate_by))]
 pub fn pass(
     fifo: Fifo,
     cp: &[u32; 60],
@@ -93,20 +73,24 @@ pub fn pass(
     ring: usize,
     xf: usize,
     buffer: usize,
-) -> Gate
+) -> Result<(), Reason>
     ensures { meaning_of_gate result ≡ gate_by fifo cp.now bp.now draw ring xf buffer ∷ [] }
 {
     if !state_fits(fifo, cp, bp, draw, ring) {
-        return Gate::Refused(Reason::InvalidState);
+        return Err(Reason::InvalidState);
     }
-    if xf != XF_LENGTH {
-        return Gate::Refused(Reason::XfMemoryLength);
+    if xf != places::XF_LENGTH {
+        return Err(Reason::XfMemoryLength);
     }
     if buffer < LARGEST_VERTEX {
-        return Gate::Refused(Reason::VertexBufferShort);
+        return Err(Reason::VertexBufferShort);
     }
     let control = fifo.control;
-    let disabled = control % 2 == 0;
-    let linked = control / 16 % 2 != 0;
-    first_of(disabled, Reason::ReadDisabled, linked, Reason::LinkedMode)
+    if control % 2 == 0 {
+        return Err(Reason::ReadDisabled);
+    }
+    if control / 16 % 2 != 0 {
+        return Err(Reason::LinkedMode);
+    }
+    Ok(())
 }

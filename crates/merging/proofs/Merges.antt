@@ -1,25 +1,15 @@
 -- The loop that merges two patches register by register, and what `merge` promises, answer by answer.
-use mathlib.Core.Path.{◌≡◌, refl, sym, ◌∙◌}
-use mathlib.Core.Bool.{Bool, true, false, not, ◌&&◌}
+use mathlib.Core.Path.{◌≡◌, ◌∙◌}
 use mathlib.Core.List.{List}
 use Prim.Native.Nat.{ℕ, ◌+◌, ◌≤◌, ◌<◌, zero-le}
 use native.Mathlib.Omega.{arith}
 use lib.Bits.{bit_or}
-use lib.Dec.{eqb}
-use lib.ListN.{length, take, set, length-set}
-use borrow.Author.Tests.{eqb-true}
+use lib.ListN.{take, set, length-set}
 use Rattle.laws.specs.Values.{up_to}
-use Rattle.laws.proofs.Cases.{and_left, and_right}
 use Rattle.laws.proofs.Filled.{fill_none, fill_next, fill_all}
-use Rattle.refusal.specs.Number.{number}
-use Rattle.refusal.specs.declared.Reason.{Reason}
-use Rattle.refusal.specs.declared.Reason.TheVariants.{PatchLength}
-use Rattle.refusal.proofs.Positive.{number_some, not_zero}
 use Rattle.effect.specs.Effect.{masked}
-use Rattle.patch.specs.declared.Checked.TheVariants.{Accepted, Refused}
-use Rattle.patch.specs.Patch.{bp_count, Patch, patch_of, mask_at, number_at, is_sized, fault_of, IsAccepted, merged_of}
-use Rattle.merging.specs.Merging.{merge_refusal, Merges, SizedBy, AllSized, MergesAll}
-use Rattle.refusal.proofs.First.{or_some}
+use Rattle.patch.specs.Patch.{bp_count, Patch, patch_of, mask_at, number_at, merged_of}
+use Rattle.merging.specs.Merging.{SizedBy, MergesAll}
 
 -- ---- the loop
 
@@ -67,53 +57,3 @@ module _ (a b : Patch) (masks numbers : List ℕ) where
         masks_are = fill_all (merged_mask a b) masks bp_count r g.sized.masks_size e g.masks_are;
         numbers_are = fill_all (merged_number a b) numbers bp_count r g.sized.numbers_size e g.numbers_are;
       }
-
--- ---- the answers
-
-sized_by : (p : Patch) → is_sized p ≡ true → SizedBy p
-sized_by p t =
-    record {
-      masks_size = eqb-true _ _ (and_left (eqb (length p.masks) bp_count) (eqb (length p.numbers) bp_count) t);
-      numbers_size = eqb-true _ _ (and_right (eqb (length p.masks) bp_count) (eqb (length p.numbers) bp_count) t);
-    }
-
-module _ (a b out : Patch) where
-  pub all_sized : ((is_sized a && is_sized b) && is_sized out) ≡ true → AllSized a b out
-  all_sized t =
-      let u = and_left (is_sized a && is_sized b) (is_sized out) t in
-      record {
-        of_a = sized_by a (and_left (is_sized a) (is_sized b) u);
-        of_b = sized_by b (and_right (is_sized a) (is_sized b) u);
-        of_out = sized_by out (and_right (is_sized a && is_sized b) (is_sized out) t);
-      }
-
-  -- a refusal leaves the lent pair as it was
-  refuses : (r : Reason) → merge_refusal a b out ≡ number r → Merges a b out (Refused r) out
-  refuses r e = record { answer_is = sym e; out_is = rw (not_zero r e) }
-
-  not_true : (b : Bool) → not b ≡ true → b ≡ false
-  not_true true e = sym e
-  not_true false e = refl
-
-  pub by_size : not ((is_sized a && is_sized b) && is_sized out) ≡ true → Merges a b out (Refused PatchLength) out
-  unfolding merge_refusal
-  by_size t = refuses PatchLength (rw (not_true ((is_sized a && is_sized b) && is_sized out) t))
-
-  module _ (t : ((is_sized a && is_sized b) && is_sized out) ≡ true) where
-    pub by_a : (r : Reason) → number r ≡ fault_of a → Merges a b out (Refused r) out
-    unfolding merge_refusal
-    by_a r e = refuses r (rw (t, ← e) (or_some (number r) (fault_of b) (number_some r)))
-
-    pub by_b : IsAccepted a → (r : Reason) → number r ≡ fault_of b → Merges a b out (Refused r) out
-    unfolding merge_refusal
-    by_b ok r e = refuses r (rw (t, ok) (sym e))
-
-    pub by_merging : IsAccepted a → IsAccepted b → (masks numbers : List ℕ) → MergesAll a b masks numbers
-        → Merges a b out Accepted (patch_of masks numbers)
-    unfolding merge_refusal
-    by_merging ok ok' masks numbers m =
-        let z : merge_refusal a b out ≡ 0 = rw (t, ok) ok' in
-        record {
-          answer_is = sym z;
-          out_is = rw z (λ i. record { masks = m.masks_are i; numbers = m.numbers_are i });
-        }

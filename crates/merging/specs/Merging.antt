@@ -1,6 +1,6 @@
 -- What `merge` promises.
-use Rattle.std.specs.Prelude.{◌≡◌, cond, ◌&&◌, List, ℕ, eqb, length}
-use Rattle.patch.specs.declared.Checked.{Checked}
+use Rattle.std.specs.Prelude.{◌≡◌, cond, ◌&&◌, List, ℕ, eqb, length, Result}
+use Rattle.refusal.specs.declared.Reason.{Reason}
 use Rattle.patch.specs.Patch.{Patch, bp_count, is_sized, fault_of, or_else, merged_of}
 use Rattle.patch.specs.Answers.{meaning}
 
@@ -9,7 +9,7 @@ unfoldable pub merge_refusal : Patch → Patch → Patch → ℕ
 merge_refusal a b out = cond ((is_sized a && is_sized b) && is_sized out) (or_else (fault_of a) (fault_of b)) 12
 
 -- the lent pair holds the merged patch, or what it held: "The refused call .. changes nothing."
-pub record Merges (a b out : Patch) (r : Checked) (out' : Patch) : Type 0 where
+pub record Merges (a b out : Patch) (r : Result (Unit {0}) Reason) (out' : Patch) : Type 0 where
   pub answer_is : meaning r ≡ merge_refusal a b out
   pub out_is : out' ≡ cond (eqb (merge_refusal a b out) 0) (merged_of a b) out
 

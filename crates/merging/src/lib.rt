@@ -1,21 +1,22 @@
-// Two patches merged into one.
+// Two patches merged into one. A patch is two slices side by side, its masks and its numbers, as the calls in C lend them.
 #![tactic(auto)]
 
-ghost use Rattle.std.specs.Prelude.{◌≡◌, ◌&&◌, eqb};
-ghost use Rattle.patch.specs.Patch.{patch_of, bp_count};
+ghost use Rattle.std.specs.Prelude.{◌≡◌};
+ghost use Rattle.patch.specs.Patch.{patch_of, is_sized};
 ghost use Rattle.merging.specs.Merging.{AllSized, Merges, MergesAll};
 
-use patch::{Checked, check};
+use patch::check;
 use refusal::Reason;
 
 // Whether there are 256 masks and 256 numbers.
-fn is_sized(masks: usize, numbers: usize) -> bool
-    ensures { result ≡ (eqb masks bp_count && eqb numbers bp_count) }
+fn is_sized(masks: &[u32], numbers: &[u32]) -> bool
+    ensures { result ≡ is_sized (patch_of masks.now numbers.now) }
 {
-    (masks == 256) & (numbers == 256)
+    masks.len() == 256 && numbers.len() == 256
 }
 
 // Register by register: the bits that either names, B's where B names them.
+// By index: of slices written through `iter_mut` a proof knows the length alone.
 fn merge_all(
     a_masks: &[u32],
     a_numbers: &[u32],
@@ -30,19 +31,14 @@ fn merge_all(
         (patch_of b_masks.now b_numbers.now)
         masks.new numbers.new }
 {
-    let mut r: usize = 0;
-    while r < 256 {
-        let of_a = a_masks[r];
-        let of_b = b_masks[r];
-        let a = a_numbers[r];
-        let b = b_numbers[r];
-        masks[r] = of_a | of_b;
-        numbers[r] = effect::replace_bits(a, of_b, b);
-        r += 1;
+    for r in 0..256 {
+        masks[r] = a_masks[r] | b_masks[r];
+        numbers[r] = effect::replace_bits(a_numbers[r], b_masks[r], b_numbers[r]);
     }
 }
 
 // Merges patch B into patch A, into the lent pair; or says why not and leaves that as it was.
+#[tactic(auto, unfolding(crate::specs::Merging::merge_refusal))]
 pub fn merge(
     a_masks: &[u32],
     a_numbers: &[u32],
@@ -50,25 +46,16 @@ pub fn merge(
     b_numbers: &[u32],
     masks: &mut [u32],
     numbers: &mut [u32],
-) -> Checked
+) -> Result<(), Reason>
     ensures { Merges (patch_of a_masks.now a_numbers.now)
         (patch_of b_masks.now b_numbers.now)
         (patch_of masks.old numbers.old) result (patch_of masks.new numbers.new) }
 {
-    let a_sized = is_sized(a_masks.len(), a_numbers.len());
-    let b_sized = is_sized(b_masks.len(), b_numbers.len());
-    let sized = is_sized(masks.len(), numbers.len());
-    if !(a_sized & b_sized & sized) {
-        return Checked::Refused(Reason::PatchLength);
+    if !is_sized(a_masks, a_numbers) || !is_sized(b_masks, b_numbers) || !is_sized(masks, numbers) {
+        return Err(Reason::PatchLength);
     }
-    let a = check(a_masks, a_numbers);
-    if let Checked::Refused(reason) = a {
-        return Checked::Refused(reason);
-    }
-    let b = check(b_masks, b_numbers);
-    if let Checked::Refused(reason) = b {
-        return Checked::Refused(reason);
-    }
+    check(a_masks, a_numbers)?;
+    check(b_masks, b_numbers)?;
     merge_all(a_masks, a_numbers, b_masks, b_numbers, masks, numbers);
-    Checked::Accepted
+    Ok(())
 }

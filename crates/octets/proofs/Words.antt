@@ -1,13 +1,14 @@
 -- Words stored one after the other are the words' bytes.
-use mathlib.Core.Path.{◌≡◌, refl, ap, ◌∙◌}
+use mathlib.Core.Path.{◌≡◌, refl, ◌∙◌}
 use mathlib.Core.List.{List, [], ◌∷◌, ◌++◌, append_assoc, append-nil}
-use Prim.Native.Nat.{ℕ, suc, ◌+◌, ◌-◌, ◌*◌, ◌/◌, ◌%◌, ◌<◌, ◌≤◌}
+use Prim.Native.Nat.{ℕ, ◌+◌, ◌-◌, ◌*◌, ◌/◌, ◌%◌, ◌<◌, ◌≤◌}
 use native.Mathlib.Numerals.{add-one}
 use native.Mathlib.Omega.{arith}
-use lib.ListN.{length, get_or, set, take, drop, length-append, length-drop}
-use lib.Seq.{take-suc, take_at, take-length, drop-append-add, drop-drop, sets, sets-eq, length-take-le}
-use borrow.Author.Tests.{le-leb, lt-leb}
+use lib.ListN.{length, get_or, take, drop, length-append, length-drop}
+use lib.Seq.{take-suc, take_at, drop-append-add, drop-drop, length-take-le}
+use borrow.Author.Tests.{le-leb}
 use borrow.Rule.Slice.PartMut.{put_mid}
+use Rattle.std.specs.Int.{w32, to_be_bytes}
 use Rattle.laws.proofs.Pieces.{lent_rest}
 use Rattle.octets.specs.BigEndian.{bytes_of, word_bytes, with_words}
 use Rattle.octets.proofs.Written.{length_bytes}
@@ -27,6 +28,14 @@ words_append (x ∷ xs) ys = rw (words_append xs ys, append_assoc)
 pub words_one : (w : ℕ) → word_bytes (w ∷ []) ≡ bytes_of 4 w
 unfolding word_bytes
 words_one w = append-nil (bytes_of 4 w)
+
+-- a word's four bytes, as std writes them
+pub four_bytes_written : (w : ℕ) → to_be_bytes w32 w ≡ bytes_of 4 w
+unfolding bytes_of
+four_bytes_written w =
+    let high : w / 16777216 % 256 ≡ w / 256 / 256 / 256 % 256 = omega arith in
+    let next : w / 65536 % 256 ≡ w / 256 / 256 % 256 = omega arith in
+    rw (high, next)
 
 -- the output with the first i words at its front
 abbrev pub state : List ℕ → List ℕ → ℕ → List ℕ
@@ -57,39 +66,12 @@ module _ (out words : List ℕ) (i : ℕ) (there : i < length words) (room : 4 *
   front : take (4 * i) (state out words i) ≡ before
   front = take_at before (drop (4 * i) out) (4 * i) before_length
 
-  state_length : length (state out words i) ≡ length out
-  state_length =
-      let a : length before ≡ 4 * i = before_length in
-      rw (length-append before (drop (4 * i) out), length-drop) (omega arith)
-
   -- the four bytes of the next word
-  pub state_next : sets (state out words i) (4 * i) (bytes_of 4 (get_or words i 0)) ≡ state out words (i + 1)
-  state_next =
-      let w : List ℕ = bytes_of 4 (get_or words i 0) in
-      let l : length w ≡ 4 = length_bytes 4 (get_or words i 0) in
-      let fits : 4 * i + length w ≤ length (state out words i) = omega (arith, state_length) in
-      sets-eq w (state out words i) (4 * i) fits ∙ rw (l, front, rest, next_words) (simp append_assoc)
-
--- words that have no room
-pub words_short : (ws out : List ℕ) → length out / 4 < length ws → out ≡ with_words ws out
-words_short ws out h = rw (lt-leb (4 * length ws) (length out) (omega arith))
-
--- all words stored
-pub words_whole : (ws out o : List ℕ) (i : ℕ) → i ≡ length ws → length ws ≤ length out / 4 → o ≡ state out ws i → o ≡ with_words ws out
-words_whole ws out o i e h q =
-    rw (le-leb (4 * length ws) (length out) (omega arith))
-    (q ∙ ap (λ (k : ℕ). state out ws k) e ∙ ap (λ (l : List ℕ). word_bytes l ++ drop (4 * length ws) out) (take-length ws))
-
--- a word's four bytes, as the code stores them
-pub four_stores : (l : List ℕ) (p w : ℕ)
-    → set (set (set (set l p (w / 256 / 256 / 256 % 256)) (p + 1) (w / 256 / 256 % 256)) (p + 2) (w / 256 % 256)) (p + 3) (w % 256)
-    ≡ sets l p (bytes_of 4 w)
-unfolding bytes_of
-four_stores l p w =
-    let a : p + 1 ≡ suc p = omega arith in
-    let b : p + 2 ≡ suc (suc p) = omega arith in
-    let c : p + 3 ≡ suc (suc (suc p)) = omega arith in
-    rw (a, b, c)
+  pub state_next : {o v : List ℕ} {n : ℕ} → o ≡ state out words i → v ≡ to_be_bytes w32 (get_or words i 0) → n ≡ 4
+      → put_mid (4 * i) n o v ≡ state out words (i + 1)
+  state_next so_far w e =
+      rw (so_far, w ∙ four_bytes_written (get_or words i 0), e, drop-drop 4 (4 * i) (state out words i), front, rest, next_words)
+      (simp append_assoc)
 
 -- words over what is left of an output from a place on
 pub words_lent : (out ws v : List ℕ) (at : ℕ) → at + 4 * length ws ≤ length out → v ≡ with_words ws (take (length out - at) (drop at out))

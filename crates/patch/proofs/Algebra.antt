@@ -124,18 +124,21 @@ merged_assoc a b c pa pb pc =
           up_to_ext (λ r. masked (number_at (merged_of a b) r) (mask_at c r) (number_at c r))
           (λ r. masked (number_at a r) (mask_at (merged_of b c) r) (number_at (merged_of b c) r)) bp_count
           (λ r l. rw (merged_number_lem r l a b, merged_mask_lem r l b c, merged_number_lem r l b c)
-          (sym (masked_masked (number_at a r) (mask_at b r) (number_at b r) (mask_at c r) (number_at c r) (hb.small r l) (hc.small r l)))) i;
+          (sym
+          (masked_masked (number_at a r) (mask_at b r) (number_at b r) (mask_at c r) (number_at c r) (hb.small r l) (hc.small r l)))) i;
     }
 
 -- ---- a merged patch is the two in turn
 
-pub applied_merged : (bp : List ℕ) (a b : Patch) → IsAccepted a → IsAccepted b → applied_to bp (merged_of a b) ≡ applied_to (applied_to bp a) b
+pub applied_merged : (bp : List ℕ) (a b : Patch) → IsAccepted a → IsAccepted b
+    → applied_to bp (merged_of a b) ≡ applied_to (applied_to bp a) b
 unfolding applied_to
 applied_merged bp a b pa pb =
     up_to_ext (λ r. masked (get_or bp r 0) (mask_at (merged_of a b) r) (number_at (merged_of a b) r))
     (λ r. masked (get_or (applied_to bp a) r 0) (mask_at b r) (number_at b r)) bp_count
     (λ r l. rw (merged_mask_lem r l a b, merged_number_lem r l a b, applied_at r l bp a)
-    (masked_masked (get_or bp r 0) (mask_at a r) (number_at a r) (mask_at b r) (number_at b r) ((sound a pa).small r l) ((sound b pb).small r l)))
+    (masked_masked (get_or bp r 0) (mask_at a r) (number_at a r) (mask_at b r) (number_at b r)
+    ((sound a pa).small r l) ((sound b pb).small r l)))
 
 -- applying leaves open registers open, and the blank patch all as they were
 pub applied_open : (bp : List ℕ) (p : Patch) → IsAccepted p → Open bp → Open (applied_to bp p)
@@ -171,4 +174,5 @@ applied_swap bp a b pa pb = (
         ↔ AgreeAt (mask_at a r) (number_at a r) (mask_at b r) (number_at b r)
     sides r l =
         rw (applied_at r l (applied_to bp a) b, applied_at r l (applied_to bp b) a, applied_at r l bp a, applied_at r l bp b)
-        (masked_swap (get_or bp r 0) (mask_at a r) (number_at a r) (mask_at b r) (number_at b r) ((sound a pa).small r l) ((sound b pb).small r l))
+        (masked_swap (get_or bp r 0) (mask_at a r) (number_at a r) (mask_at b r) (number_at b r)
+        ((sound a pa).small r l) ((sound b pb).small r l))

@@ -10,8 +10,8 @@ use native.Mathlib.Omega.{arith}
 use lib.Bits.{bit_and, and_le_r}
 use lib.Dec.{eqb, ltb, lit<}
 use lib.ListN.{length}
-use borrow.Author.Tests.{not-false, eqb-true, ltb-false, eq-eqb, ne_eqb, le-ltb}
-use Rattle.laws.proofs.Cases.{or_left, or_right}
+use borrow.Author.Tests.{not-false, eqb-true, ltb-false, eq-eqb, le-ltb}
+use Rattle.std.proofs.lemmas.Bool.{or_parts}
 use Rattle.refusal.specs.Number.{number}
 use Rattle.refusal.specs.declared.Reason.{Reason}
 use Rattle.refusal.proofs.Positive.{number_some}
@@ -22,14 +22,6 @@ use Rattle.patch.specs.Patch.{bp_count, Patch, patch_of, mask_at, number_at, fau
 -- ---- for the search's loop
 
 module _ (ms ns : List ℕ) where
-  pub fault_masks : (length ms ≡ bp_count → ⊥) → fault_of (patch_of ms ns) ≡ 12
-  unfolding fault_of
-  fault_masks h = rw (ne_eqb (length ms) bp_count h)
-
-  pub fault_numbers : length ms ≡ bp_count → (length ns ≡ bp_count → ⊥) → fault_of (patch_of ms ns) ≡ 12
-  unfolding fault_of
-  fault_numbers h k = rw (eq-eqb (length ms) bp_count h, ne_eqb (length ns) bp_count k)
-
   pub fault_sized : length ms ≡ bp_count → length ns ≡ bp_count → fault_of (patch_of ms ns) ≡ fault_from bp_count 0 (patch_of ms ns)
   unfolding fault_of
   fault_sized h k = rw (eq-eqb (length ms) bp_count h, eq-eqb (length ns) bp_count k)
@@ -76,7 +68,7 @@ pub record Sound (p : Patch) : Type 0 where
 
 -- neither of two, unless the first holds
 unnamed : (a b c : Bool) → (a && (not b || not c)) ≡ false → a ≡ true → (b ≡ true) × (c ≡ true)
-unnamed true b c e t = (not-false b (or_left (not b) (not c) e), not-false c (or_right (not b) (not c) e))
+unnamed true b c e t = (not-false b (or_parts (not b) (not c) e).0, not-false c (or_parts (not b) (not c) e).1)
 unnamed false b c e t = absurd (false≢true t)
 
 named : (a b c : Bool) → (a ≡ true → (b ≡ true) × (c ≡ true)) → (a && (not b || not c)) ≡ false

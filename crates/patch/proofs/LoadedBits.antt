@@ -7,8 +7,8 @@ use lib.Dec.{eqb, lit<}
 use lib.ListN.{length, get_or, set, length-set}
 use lib.Seq.{get_or-set_same, get_or-set_other}
 use borrow.Author.Tests.{eqb-false, ne_eqb}
+use Rattle.std.proofs.lemmas.Bool.{cases_Bool}
 use Rattle.laws.specs.Bits.{bit}
-use Rattle.laws.proofs.Cases.{tested}
 use Rattle.effect.specs.Effect.{masked, mask_place, stored_bp, loaded_bp}
 use Rattle.patch.specs.Patch.{bp_count}
 use Rattle.patch.specs.Registers.{LoadedBits}
@@ -30,7 +30,7 @@ module _ (bp : List ℕ) (r n : ℕ) (size : length bp ≡ bp_count) (l : r < bp
       ⊎_elim
       (λ t. rw t own_at)
       (λ t. rw t (get_or-set_other (set bp r new) mask_place r 0xFFFFFF 0 (eqb-false r mask_place t) ∙ own_at))
-      (tested (eqb r mask_place))
+      (cases_Bool (eqb r mask_place))
 
   at_mask : (r ≡ mask_place → ⊥) → get_or (loaded_bp bp r n) mask_place 0 ≡ 0xFFFFFF
   unfolding loaded_bp stored_bp
@@ -43,7 +43,7 @@ module _ (bp : List ℕ) (r n : ℕ) (size : length bp ≡ bp_count) (l : r < bp
       ⊎_elim
       (λ t. rw t old)
       (λ t. rw t (get_or-set_other (set bp r new) mask_place i 0xFFFFFF 0 g ∙ old))
-      (tested (eqb r mask_place))
+      (cases_Bool (eqb r mask_place))
 
   pub loaded_bits : LoadedBits bp r n
   loaded_bits =

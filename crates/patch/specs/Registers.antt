@@ -21,7 +21,8 @@ Agree a b = (r : ℕ) → r < bp_count → AgreeAt (mask_at a r) (number_at a r)
 -- the BP registers after a load of n to register r, bit by bit
 pub record LoadedBits (bp : List ℕ) (r n : ℕ) : Type 0 where
   -- each bit of the register is the number's where the mask in FE has it, and the old one's elsewhere; so for FE itself
-  pub own : (k : ℕ) → k < 24 → bit k (get_or (loaded_bp bp r n) r 0) ≡ cond (bit k (get_or bp mask_place 0)) (bit k n) (bit k (get_or bp r 0))
+  pub own : (k : ℕ) → k < 24
+      → bit k (get_or (loaded_bp bp r n) r 0) ≡ cond (bit k (get_or bp mask_place 0)) (bit k n) (bit k (get_or bp r 0))
   -- FE is FFFFFF, unless it was the load's register
   pub mask : (r ≡ mask_place → ⊥) → get_or (loaded_bp bp r n) mask_place 0 ≡ 0xFFFFFF
   -- all others stay

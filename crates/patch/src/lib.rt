@@ -1,72 +1,48 @@
-// Patches of the BP registers (document 01's correction sheets): checked.
+// Patches of the BP registers (document 01's correction sheets): checked. A patch is two slices side by side, its masks and its numbers, as
+// the calls in C lend them.
 #![tactic(auto)]
 
-ghost use Rattle.std.specs.Prelude.{◌≡◌, cond};
-ghost use Rattle.refusal.specs.Number.{number};
+ghost use Rattle.std.specs.Prelude.{◌≡◌};
 ghost use Rattle.patch.specs.Patch.{patch_of, fault_at, fault_of};
 ghost use Rattle.patch.specs.Answers.{meaning};
 
 use refusal::Reason;
 
-#[derive(Clone, Copy)]
-pub enum Checked {
-    Accepted,
-    Refused(Reason),
-}
-
-// The first of three reasons whose test holds.
-fn first_of(a: bool, first: Reason, b: bool, second: Reason, c: bool, third: Reason) -> Checked
-    ensures { meaning result ≡ cond a (number first) (cond b (number second) (cond c (number third) 0)) }
-{
-    if a {
-        return Checked::Refused(first);
-    }
-    if b {
-        return Checked::Refused(second);
-    }
-    if c {
-        return Checked::Refused(third);
-    }
-    Checked::Accepted
-}
-
-// The fault of a register with its mask and number.
-fn fault_at(r: usize, mask: u32, number: u32) -> Checked
+// The first fault of a register with its mask and number.
+#[tactic(auto, unfolding(crate::specs::Patch::fault_at))]
+fn test(r: usize, mask: u32, number: u32) -> Result<(), Reason>
     ensures { meaning result ≡ fault_at r mask number }
 {
-    let named = (r == 0xFE) & ((mask != 0) | (number != 0));
-    let wide = 0xFF_FFFF < mask;
-    let outside = number & mask != number;
-    first_of(
-        named,
-        Reason::PatchOfMaskRegister,
-        wide,
-        Reason::PatchMaskTooWide,
-        outside,
-        Reason::PatchNumberOutsideMask,
-    )
+    if r == 0xFE && (mask != 0 || number != 0) {
+        return Err(Reason::PatchOfMaskRegister);
+    }
+    if 0xFF_FFFF < mask {
+        return Err(Reason::PatchMaskTooWide);
+    }
+    if number & mask != number {
+        return Err(Reason::PatchNumberOutsideMask);
+    }
+    Ok(())
 }
 
 // Searches a patch by register, ascending; the search ends at the first fault.
-pub fn check(masks: &[u32], numbers: &[u32]) -> Checked
+// A patch is two slices side by side, its masks and its numbers, as the calls in C lend them.
+#[tactic(auto, unfolding(crate::specs::Patch::fault_of))]
+pub fn check(masks: &[u32], numbers: &[u32]) -> Result<(), Reason>
     ensures { meaning result ≡ fault_of (patch_of masks.now numbers.now) }
 {
-    if masks.len() != 256 {
-        return Checked::Refused(Reason::PatchLength);
+    if masks.len() != 256 || numbers.len() != 256 {
+        return Err(Reason::PatchLength);
     }
-    if numbers.len() != 256 {
-        return Checked::Refused(Reason::PatchLength);
-    }
+    // A loop that yields the first fault by break, the form asked for this search: a `for` yields nothing, so its index is counted here.
     let mut r: usize = 0;
-    let found = loop {
+    loop {
         if r == 256 {
-            break Checked::Accepted;
+            break Ok(());
         }
-        let fault = fault_at(r, masks[r], numbers[r]);
-        if let Checked::Refused(reason) = fault {
-            break Checked::Refused(reason);
+        if let Err(reason) = test(r, masks[r], numbers[r]) {
+            break Err(reason);
         }
         r += 1;
-    };
-    found
+    }
 }

@@ -73,11 +73,13 @@ module _ (p : Patch) (ok : Sound p) where
   unfolding bp_after_all commands_at bp_after
   pair_patched r bp g l = go (mask_at p r) refl
     where
-      go : (m : ℕ) → mask_at p r ≡ m → bp_after_all (commands_at r m (number_at p r)) bp ≡ set bp r (masked (get_or bp r 0) m (number_at p r))
+      go : (m : ℕ) → mask_at p r ≡ m
+          → bp_after_all (commands_at r m (number_at p r)) bp ≡ set bp r (masked (get_or bp r 0) m (number_at p r))
       go zero e = sym (ap (λ (x : ℕ). set bp r x) (masked_none (get_or bp r 0) (number_at p r) (g.wide r l)) ∙ set-get_or bp r 0)
       go (suc m) e = load_pair bp r (suc m) (number_at p r) g.size g.unmasked (not_mask r m e) (rw e at (ok.small r l))
 
-  at_same : (r : ℕ) (bp : List ℕ) → Open bp → r < bp_count → get_or (patched p r bp) r 0 ≡ masked (get_or bp r 0) (mask_at p r) (number_at p r)
+  at_same : (r : ℕ) (bp : List ℕ) → Open bp → r < bp_count
+      → get_or (patched p r bp) r 0 ≡ masked (get_or bp r 0) (mask_at p r) (number_at p r)
   at_same r bp g l = get_or-set_same bp r _ 0 (rw g.size l)
 
   at_other : (r i : ℕ) (bp : List ℕ) → i ≢ r → get_or (patched p r bp) i 0 ≡ get_or bp i 0
@@ -109,7 +111,8 @@ module _ (p : Patch) (ok : Sound p) where
       ∙ ap (bp_after_all (commands_from n (suc r) p)) (pair_patched r bp g l)
 
   -- the registers below r stay
-  keeps : (n r i : ℕ) (bp : List ℕ) → Open bp → r + n ≤ bp_count → i < r → get_or (bp_after_all (commands_from n r p) bp) i 0 ≡ get_or bp i 0
+  keeps : (n r i : ℕ) (bp : List ℕ) → Open bp → r + n ≤ bp_count → i < r
+      → get_or (bp_after_all (commands_from n r p) bp) i 0 ≡ get_or bp i 0
   unfolding bp_after_all commands_from
   keeps zero r i bp g l h = refl
   keeps (suc n) r i bp g l h =

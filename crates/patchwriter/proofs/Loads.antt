@@ -11,8 +11,10 @@ use Rattle.octets.proofs.Written.{length_bytes}
 use Rattle.command.specs.Command.{load_bp}
 use Rattle.command.specs.declared.Draw.{Draw}
 use Rattle.effect.specs.Effect.{cp_after, xf_after, vertex_after, draw_after}
-use Rattle.writer.specs.declared.Written.{Written}
+use Rattle.std.specs.Prelude.{Result, Ok}
+use Rattle.refusal.specs.declared.Reason.{Reason}
 use Rattle.writer.specs.Write.{head_of, words_of, word_bytes, command_bytes, refusal_of, placed, Writes}
+use Rattle.writer.proofs.Meanings.{meaning_injective}
 use Rattle.writable.specs.Writable.{unwritable, unaddressed, past_end}
 
 module _ (register n : ℕ) where
@@ -28,11 +30,16 @@ module _ (register n : ℕ) where
   writable room h k = rw (lt-leb (2 ^ 24) n h, load_length, le-ltb room 5 k)
 
   -- a load of 24 bits is written wherever there is room for five bytes
-  pub load_written : {out out' : List ℕ} {w : Written} → n < 2 ^ 24 → 5 ≤ length out → Writes (load_bp register n) [] out w out'
+  pub load_written : {out out' : List ℕ} {w : Result ℕ Reason} → n < 2 ^ 24 → 5 ≤ length out → Writes (load_bp register n) [] out w out'
       → out' ≡ placed (command_bytes (load_bp register n) []) out
   load_written {out} h k e =
       e.out_is
       ∙ ap (λ (x : ℕ). cond (eqb x 0) (placed (command_bytes (load_bp register n) []) out) out) (writable (length out) h k)
+
+  -- and the answer is these five
+  pub load_answered : {out out' : List ℕ} {w : Result ℕ Reason} → n < 2 ^ 24 → 5 ≤ length out → Writes (load_bp register n) [] out w out'
+      → w ≡ Ok 5
+  load_answered {out} {out'} {w} h k e = meaning_injective w (Ok 5) (e.answer_is ∙ rw (writable (length out) h k, load_length))
 
   -- CP registers, XF words, the vertex buffer and the open draw stay
   pub load_cp_lem : (cp : List ℕ) → cp_after (load_bp register n) cp ≡ cp

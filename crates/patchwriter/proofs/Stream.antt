@@ -7,7 +7,7 @@ use native.Mathlib.Omega.{arith}
 use lib.ListN.{length, get_or, take, drop, length-append, take-append-drop}
 use lib.Seq.{take-append-le, drop-append-le, take_at, drop_at}
 use borrow.Author.Tests.{lt-ltb}
-use Rattle.laws.proofs.Cases.{order}
+use Rattle.std.proofs.lemmas.Bool.{cases_lt}
 use Rattle.octets.specs.BigEndian.{big_endian, bytes_of}
 use Rattle.octets.proofs.Written.{read_back}
 use Rattle.command.specs.Command.{waiting, unit, load_bp}
@@ -81,11 +81,12 @@ unfolding commands_of_all
 patches_loads [] oks = tt
 patches_loads (p ∷ ps) oks = loads_append (commands_of p) (commands_of_all ps) (patch_loads p oks.0) (patches_loads ps oks.1)
 
--- "the sheets' bytes in order" are those of their commands, one after another
+-- "the sheets' bytes in cases_lt" are those of their commands, one after another
 pub patches_bytes : (ps : List Patch) → bytes_of_patches ps ≡ bytes_of_commands (commands_of_all ps)
 unfolding bytes_of_patches commands_of_all patch_bytes bytes_of_commands
 patches_bytes [] = refl
-patches_bytes (p ∷ ps) = ap (λ (x : List ℕ). patch_bytes p ++ x) (patches_bytes ps) ∙ sym (bytes_append (commands_of p) (commands_of_all ps))
+patches_bytes (p ∷ ps) =
+    ap (λ (x : List ℕ). patch_bytes p ++ x) (patches_bytes ps) ∙ sym (bytes_append (commands_of p) (commands_of_all ps))
 
 -- ---- a queue of at least five bytes
 
@@ -153,7 +154,7 @@ look_short (x ∷ q) later cp cs loads e h =
 -- either one or the other
 pub look_either : (q later cp : List ℕ) (cs : List (List ℕ)) → AllLoads cs → q ++ later ≡ bytes_of_commands cs
     → Begins q later cp cs ⊎ ((length q < 5) × (look_of q (length q) cp Closed ≡ waiting (lacking (length q))))
-look_either q later cp cs loads e = elim (order (length q) 5) [
+look_either q later cp cs loads e = elim (cases_lt (length q) 5) [
   | inl h ↦ inr (h, look_short q later cp cs loads e h)
   | inr h ↦ inl (look_whole q later cp cs loads e h)
 ]

@@ -1,30 +1,32 @@
 -- The bytes of a patch, register by register, and what `write` promises, answer by answer.
-use mathlib.Core.Path.{◌≡◌, refl, sym, ap, ap₂, ◌∙◌, subst}
-use mathlib.Core.Bool.{false, cond}
+use mathlib.Core.Path.{◌≡◌, refl, sym, ap, ◌∙◌, subst}
+use mathlib.Core.Bool.{Bool, false, cond, not}
 use mathlib.Core.List.{List, [], ◌∷◌, ◌++◌, append_assoc, append-nil}
-use Prim.Native.Nat.{ℕ, zero, suc, ◌+◌, ◌-◌, ◌^◌, ◌≤◌, ◌<◌}
+use Prim.Native.Nat.{ℕ, zero, suc, ◌+◌, ◌-◌, ◌*◌, ◌^◌, ◌≤◌, ◌<◌}
 use native.Mathlib.Numerals.{add-one}
 use native.Mathlib.Omega.{arith}
-use lib.Dec.{eqb, ltb}
-use lib.ListN.{length, get_or, take, drop, length-append, length-take, length-drop}
-use borrow.Author.Tests.{lt-ltb, le-ltb}
+use lib.Dec.{eqb}
+use lib.ListN.{length, take, drop, length-append, length-take, length-drop, drop_of_length-le}
+use lib.Seq.{drop-cons}
+use borrow.Author.Tests.{ne_eqb, lt-ltb, le-ltb}
 use borrow.Rule.Slice.PartMut.{put_mid}
 use Rattle.laws.proofs.Pieces.{Pieces, pieces_none, pieces_next, pieces_fit, pieces_all, lent_rest}
 use Rattle.refusal.specs.Number.{number}
 use Rattle.refusal.specs.declared.Reason.{Reason}
 use Rattle.refusal.specs.declared.Reason.TheVariants.{OutputShort}
-use Rattle.refusal.proofs.Positive.{number_some, not_zero}
+use Rattle.refusal.proofs.Positive.{not_zero}
 use Rattle.command.specs.Command.{load_bp}
 use Rattle.effect.specs.Effect.{mask_place}
-use Rattle.writer.specs.declared.Written.{Written}
-use Rattle.writer.specs.declared.Written.TheVariants.{Bytes, Refused}
+use Rattle.std.specs.Prelude.{Result, Ok, Err, IsOk}
+use Rattle.std.specs.List.{count_by}
+use Rattle.std.proofs.lemmas.List.Sums.{sum_by-cons}
 use Rattle.writer.specs.Write.{command_bytes, placed, Writes}
-use Rattle.patch.specs.Patch.{bp_count, Patch, mask_at, number_at, fault_of, IsAccepted}
+use Rattle.patch.proofs.Faults.{sound}
+use Rattle.patch.specs.Patch.{bp_count, Patch, mask_at, number_at, IsAccepted}
 use Rattle.patchwriter.specs.Commands.{commands_at, commands_from, commands_of, bytes_of_commands, patch_bytes}
 use Rattle.patchwriter.specs.Answers.{write_refusal, WritesPatch}
-use Rattle.patchwriter.specs.Writing.{size_at, size_from, Puts}
-use Rattle.refusal.proofs.First.{or_some}
-use Rattle.patchwriter.proofs.Loads.{load_length, load_written}
+use Rattle.patchwriter.specs.Writing.{size_of, Puts}
+use Rattle.patchwriter.proofs.Loads.{load_length, load_written, load_answered}
 
 -- the bytes of commands are those of the first, then those of the others
 pub bytes_append : (cs ds : List (List ℕ)) → bytes_of_commands (cs ++ ds) ≡ bytes_of_commands cs ++ bytes_of_commands ds
@@ -46,17 +48,22 @@ at_none r m n e = ap (λ (x : ℕ). bytes_at r x n) e
 at_named : (r m n : ℕ) → (m ≡ 0 → ⊥) → bytes_at r m n ≡ command_bytes (load_bp mask_place m) [] ++ command_bytes (load_bp r n) []
 unfolding commands_at bytes_of_commands
 at_named r zero n h = absurd (h refl)
-at_named r (suc m) n h = ap (λ (x : List ℕ). command_bytes (load_bp mask_place (suc m)) [] ++ x) (append-nil (command_bytes (load_bp r n) []))
+at_named r (suc m) n h =
+    ap (λ (x : List ℕ). command_bytes (load_bp mask_place (suc m)) [] ++ x) (append-nil (command_bytes (load_bp r n) []))
 
 some : (m : ℕ) → (suc m ≡ 0 → ⊥)
 some m e = omega arith
 
-at_size : (r m n : ℕ) → length (bytes_at r m n) ≡ size_at m
+at_size : (r m n : ℕ) → length (bytes_at r m n) ≡ 10 * cond (not (eqb m 0)) 1 0
 at_size r zero n = ap (λ (x : List ℕ). length x) (at_none r 0 n refl)
 at_size r (suc m) n =
-    ap (λ (x : List ℕ). length x) (at_named r (suc m) n (some m))
-    ∙ length-append (command_bytes (load_bp mask_place (suc m)) []) (command_bytes (load_bp r n) [])
-    ∙ ap₂ (λ (x y : ℕ). x + y) (load_length mask_place (suc m)) (load_length r n)
+    rw (
+      ne_eqb (suc m) 0 (some m),
+      at_named r (suc m) n (some m),
+      length-append (command_bytes (load_bp mask_place (suc m)) []) (command_bytes (load_bp r n) []),
+      load_length mask_place (suc m),
+      load_length r n,
+    )
 
 -- ---- the registers from r on
 
@@ -71,34 +78,33 @@ unfolding bytes_from commands_from
 from_next p r h =
     ap (λ (x : ℕ). bytes_of_commands (commands_from x r p)) (left r h)
     ∙ bytes_append (commands_at r (mask_at p r) (number_at p r)) (commands_from (bp_count - (r + 1)) (suc r) p)
-    ∙ ap (λ (x : ℕ). bytes_at r (mask_at p r) (number_at p r) ++ bytes_of_commands (commands_from (bp_count - (r + 1)) x p)) (sym (add-one r))
+    ∙ ap (λ (x : ℕ). bytes_at r (mask_at p r) (number_at p r) ++ bytes_of_commands (commands_from (bp_count - (r + 1)) x p))
+    (sym (add-one r))
 
-pub size_next : (masks : List ℕ) (r : ℕ) → r < bp_count
-    → size_from (bp_count - r) r masks ≡ size_at (get_or masks r 0) + size_from (bp_count - (r + 1)) (r + 1) masks
-unfolding size_from
-size_next masks r h =
-    ap (λ (x : ℕ). size_from x r masks) (left r h)
-    ∙ ap (λ (x : ℕ). size_at (get_or masks r 0) + size_from (bp_count - (r + 1)) x masks) (sym (add-one r))
+-- a register more
+size_more : (m : ℕ) (ms : List ℕ) → size_of (m ∷ ms) ≡ 10 * cond (not (eqb m 0)) 1 0 + size_of ms
+size_more m ms =
+    let named : ℕ → Bool = λ mask. not (eqb mask 0) in
+    let e : count_by named (m ∷ ms) ≡ cond (named m) 1 0 + count_by named ms = sum_by-cons (λ mask. cond (named mask) 1 0) m ms in
+    omega arith
 
-pub size_end : (masks : List ℕ) (r : ℕ) → r ≡ bp_count → size_from (bp_count - r) r masks ≡ 0
-unfolding size_from
-size_end masks r e = ap (λ (x : ℕ). size_from (bp_count - x) x masks) e
-
-pub size_named : (m : ℕ) → (m ≡ 0 → ⊥) → size_at m ≡ 10
-size_named zero h = absurd (h refl)
-size_named (suc m) h = refl
-
-from_size : (n r : ℕ) (p : Patch) → length (bytes_of_commands (commands_from n r p)) ≡ size_from n r p.masks
-unfolding commands_from bytes_of_commands size_from
-from_size zero r p = refl
-from_size (suc n) r p =
+from_size : (n r : ℕ) (p : Patch) → r + n ≡ length p.masks
+    → length (bytes_of_commands (commands_from n r p)) ≡ size_of (drop r p.masks)
+unfolding commands_from bytes_of_commands
+from_size zero r p e = ap size_of (sym (drop_of_length-le p.masks (omega arith)))
+from_size (suc n) r p e =
+    let here : length (bytes_at r (mask_at p r) (number_at p r)) ≡ 10 * cond (not (eqb (mask_at p r) 0)) 1 0 =
+    at_size r (mask_at p r) (number_at p r) in
+    let next : length (bytes_of_commands (commands_from n (suc r) p)) ≡ size_of (drop (suc r) p.masks) =
+    from_size n (suc r) p (omega arith) in
     ap (λ (x : List ℕ). length x) (bytes_append (commands_at r (mask_at p r) (number_at p r)) (commands_from n (suc r) p))
     ∙ length-append (bytes_at r (mask_at p r) (number_at p r)) (bytes_of_commands (commands_from n (suc r) p))
-    ∙ ap₂ (λ (x y : ℕ). x + y) (at_size r (mask_at p r) (number_at p r)) (from_size n (suc r) p)
+    ∙ (omega (arith, here, next, size_more (mask_at p r) (drop (suc r) p.masks)))
+    ∙ ap size_of (sym (drop-cons p.masks r 0 (omega arith)))
 
-pub patch_size : (p : Patch) → length (patch_bytes p) ≡ size_from bp_count 0 p.masks
+pub patch_size : (p : Patch) → length p.masks ≡ bp_count → length (patch_bytes p) ≡ size_of p.masks
 unfolding patch_bytes commands_of
-patch_size p = from_size bp_count 0 p
+patch_size p e = from_size bp_count 0 p (sym e)
 
 -- ---- the loop that writes them
 
@@ -106,9 +112,9 @@ patch_size p = from_size bp_count 0 p
 pub record Writing (p : Patch) (out₀ out : List ℕ) (at r : ℕ) : Type 0 where
   pub pieces : Pieces (patch_bytes p) out₀ out at (bytes_from r p)
 
-pub writing_none : (p : Patch) (out : List ℕ) → size_from bp_count 0 p.masks ≤ length out → Writing p out out 0 0
+pub writing_none : (p : Patch) (out : List ℕ) → length p.masks ≡ bp_count → size_of p.masks ≤ length out → Writing p out out 0 0
 unfolding bytes_from patch_bytes commands_of
-writing_none p out h = record { pieces = pieces_none (patch_bytes p) out (subst (λ (x : ℕ). x ≤ length out) (sym (patch_size p)) h) }
+writing_none p out e h = record { pieces = pieces_none (patch_bytes p) out (subst (λ (x : ℕ). x ≤ length out) (sym (patch_size p e)) h) }
 
 module _ {p : Patch} {r : ℕ} {out₀ out : List ℕ} {at : ℕ} where
   pub writing_skip : Writing p out₀ out at r → r < bp_count → mask_at p r ≡ 0 → Writing p out₀ out at (r + 1)
@@ -126,7 +132,8 @@ module _ {p : Patch} {r : ℕ} {out₀ out : List ℕ} {at : ℕ} where
   writing_named h l f =
       subst (λ (x : List ℕ). Pieces (patch_bytes p) out₀ out at x)
       (from_next p r l ∙ ap (λ (x : List ℕ). x ++ bytes_from (r + 1) p) (at_named r (mask_at p r) (number_at p r) f)
-      ∙ append_assoc (command_bytes (load_bp mask_place (mask_at p r)) []) (command_bytes (load_bp r (number_at p r)) []) (bytes_from (r + 1) p))
+      ∙ append_assoc (command_bytes (load_bp mask_place (mask_at p r)) []) (command_bytes (load_bp r (number_at p r)) [])
+      (bytes_from (r + 1) p))
       h.pieces
 
   pub writing_all : Writing p out₀ out at r → r ≡ bp_count → out ≡ placed (patch_bytes p) out₀
@@ -134,18 +141,27 @@ module _ {p : Patch} {r : ℕ} {out₀ out : List ℕ} {at : ℕ} where
   writing_all h e = pieces_all (subst (λ (x : ℕ). Pieces (patch_bytes p) out₀ out at (bytes_from x p)) e h.pieces)
 
 -- a load, written into what is left from a place on
-pub put_done : (out v : List ℕ) (at register n : ℕ) {w : Written} → at + 5 ≤ length out → n < 2 ^ 24
-    → Writes (load_bp register n) [] (take (length out - at) (drop at out)) w v
-    → Puts out at register n (at + 5) (put_mid at (length out - at) out v)
-put_done out v at register n h k e =
-    let b : List ℕ = command_bytes (load_bp register n) [] in
-    let room : 5 ≤ length (take (length out - at) (drop at out)) = simp (length-take, length-drop) (omega arith) in
-    record {
-      next_is = refl;
-      out_is =
-          lent_rest out b v at (load_written register n k room e)
-          ∙ ap (λ (x : ℕ). take at out ++ (b ++ drop x (drop at out))) (load_length register n);
-    }
+module _ (out v : List ℕ) (at register n : ℕ) {w : Result ℕ Reason} (h : at + 5 ≤ length out) (k : n < 2 ^ 24)
+    (e : Writes (load_bp register n) [] (take (length out - at) (drop at out)) w v) where
+  room : 5 ≤ length (take (length out - at) (drop at out))
+  room = simp (length-take, length-drop) (omega arith)
+
+  answered : w ≡ Ok 5
+  answered = load_answered register n k room e
+
+  pub put_answered : IsOk w
+  put_answered = rw answered
+
+  pub put_done : (size : ℕ) → w ≡ Ok size → Puts out at register n (at + size) (put_mid at (length out - at) out v)
+  put_done size f =
+      let b : List ℕ = command_bytes (load_bp register n) [] in
+      let g : ◌≡◌ {A = Result ℕ Reason} (Ok size) (Ok 5) = sym f ∙ answered in
+      record {
+        next_is = let five : size ≡ 5 = cc in omega arith;
+        out_is =
+            lent_rest out b v at (load_written register n k room e)
+            ∙ ap (λ (x : ℕ). take at out ++ (b ++ drop x (drop at out))) (load_length register n);
+      }
 
 -- there is room for the next load
 pub load_fits : {w out₀ out : List ℕ} {at : ℕ} (register n : ℕ) (q : List ℕ)
@@ -162,24 +178,20 @@ writing_put {w} {out₀} {out} {out'} {q} {at} {next} {register} {n} h e =
 -- ---- the answers
 
 module _ (p : Patch) (out : List ℕ) where
-  refuses : (r : Reason) → write_refusal p (length out) ≡ number r → WritesPatch p out (Refused r) out
+  refuses : (r : Reason) → write_refusal p (length out) ≡ number r → WritesPatch p out (Err r) out
   refuses r e =
       let f : eqb (write_refusal p (length out)) 0 ≡ false = not_zero r e in
       record { answer_is = rw f (ap (λ (n : ℕ). n ∷ []) (sym e)); out_is = rw f }
 
-  pub by_fault : (r : Reason) → number r ≡ fault_of p → WritesPatch p out (Refused r) out
-  unfolding write_refusal
-  by_fault r e = refuses r (rw (← e) (or_some (number r) (cond (ltb (length out) (length (patch_bytes p))) 16 0) (number_some r)))
-
-  module _ (ok : IsAccepted p) (n : ℕ) (size : n ≡ size_from bp_count 0 p.masks) where
+  module _ (ok : IsAccepted p) (n : ℕ) (size : n ≡ size_of p.masks) where
     same : n ≡ length (patch_bytes p)
-    same = size ∙ sym (patch_size p)
+    same = size ∙ sym (patch_size p (sound p ok).masks_size)
 
-    pub by_room : length out < n → WritesPatch p out (Refused OutputShort) out
+    pub by_room : length out < n → WritesPatch p out (Err OutputShort) out
     unfolding write_refusal
     by_room h = refuses OutputShort (rw (ok, lt-ltb (length out) (length (patch_bytes p)) (omega (arith, same))))
 
-    pub by_writing : (out' : List ℕ) → n ≤ length out → out' ≡ placed (patch_bytes p) out → WritesPatch p out (Bytes n) out'
+    pub by_writing : (out' : List ℕ) → n ≤ length out → out' ≡ placed (patch_bytes p) out → WritesPatch p out (Ok n) out'
     unfolding write_refusal
     by_writing out' h e =
         let z : write_refusal p (length out) ≡ 0 = rw (ok, le-ltb (length out) (length (patch_bytes p)) (omega (arith, same))) in

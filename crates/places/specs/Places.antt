@@ -1,5 +1,5 @@
 -- Where each CP register stands among the 60: the registers 3X to 6X, 24 VAT words by format then group, 16 bases, 16 strides.
-use Rattle.std.specs.Prelude.{Bool, cond, ◌||◌, ℕ, ◌+◌, ◌-◌, ◌*◌, ◌/◌, ◌%◌, ltb, eqb}
+use Rattle.std.specs.Prelude.{Bool, cond, Option, Some, None, ◌||◌, ℕ, ◌+◌, ◌-◌, ◌*◌, ◌/◌, ◌%◌, ltb, eqb}
 
 -- how many there are
 abbrev pub cp_count : ℕ
@@ -35,6 +35,10 @@ cp_place a =
     (cond (ltb a 0xA0) (cond (ltb (a % 16) 8) (vat_place (a % 16) (a / 16 - 7)) cp_count)
     (cond (ltb a 0xB0) (base_place (a - 0xA0))
     (cond (ltb a 0xC0) (stride_place (a - 0xB0)) cp_count))))
+
+-- that place, none where the address names no register
+abbrev pub named_place : ℕ → Option ℕ
+named_place a = cond (ltb (cp_place a) cp_count) (Some (cp_place a)) None
 
 -- "20 accepted without effect. Others: 7."
 unfoldable pub cp_accepted : ℕ → Bool

@@ -9,10 +9,10 @@ use native.Mathlib.Numerals.{add-one}
 use native.Mathlib.Omega.{arith}
 use lib.Bits.{bit_or, bit_and, or_add_and, and_le_l, and_comm}
 use lib.Dec.{leb}
-use lib.ListN.{length, get_or, take, drop}
+use lib.ListN.{length, get_or, take, drop, length-drop}
+use lib.Seq.{get_or-take, get_or-drop, length-take-le}
 use borrow.Author.Tests.{ne_eqb, le-ltb, leb-true}
-use borrow.Author.Count.{below_more}
-use Rattle.laws.proofs.Cases.{order, and_left, and_right}
+use Rattle.std.proofs.lemmas.Bool.{and_parts, cases_lt}
 use Rattle.command.specs.Command.{unit, no_operation, invalidate_cache, metrics, load_indexed, call_list}
 use Rattle.command.specs.Look.{whole, by_opcode, look_of, look_indexed, look_call, indexed_array, memory_of}
 use Rattle.command.proofs.Opcodes.{at_opcode, at_indexed}
@@ -33,39 +33,34 @@ or_zero a b e =
     let c : bit_and a b ≡ bit_and b a = and_comm a b in
     (omega arith, omega arith)
 
-pub quiet_none : (bytes : List ℕ) (at : ℕ) → Quiet bytes at 0 0
-quiet_none bytes at = record { zero = λ _ k h. absurd (omega (arith, h)) }
-
-pub quiet_more : {bytes : List ℕ} {at n all : ℕ} → Quiet bytes at n all → Quiet bytes at (n + 1) (bit_or all (get_or bytes (at + n) 0))
-quiet_more {bytes} {at} {n} {all} q =
-    record {
-      zero = λ e k h.
-          let z = or_zero all (get_or bytes (at + n) 0) e in below_more (λ (j : ℕ). get_or bytes (at + j) 0 ≡ 0) n (q.zero z.0) z.1 k h;
-    }
-
 -- zeros so far, and so many more
-pub zeros_none : (bytes : List ℕ) (from end : ℕ) → from ≤ end → Zeros bytes from end from
-zeros_none bytes from end h = record { onward = omega arith; inside = h; zero = λ k p q. absurd (omega (arith, p, q)) }
-
 module _ {bytes : List ℕ} {from end : ℕ} where
-  pub zeros_more : {at : ℕ} (n : ℕ) → Zeros bytes from end at → at + n ≤ end → ((k : ℕ) → k < n → get_or bytes (at + k) 0 ≡ 0)
-      → Zeros bytes from end (at + n)
-  zeros_more {at} n z h f =
+  -- a block of zeros, lent for its bits
+  pub zeros_more : {at bits : ℕ} (n m : ℕ) → Zeros bytes from end at → at + n ≤ end → end ≤ length bytes → m ≡ n
+      → Quiet (take m (drop at bytes)) bits → bits ≡ 0 → Zeros bytes from end (at + n)
+  zeros_more {at} n m z h l e q b =
       record {
         onward = omega (arith, z.onward);
         inside = h;
-        zero = λ k p q.
-            ⊎_elim (λ (l : k < at). z.zero k p l)
-            (λ (l : at ≤ k). let e : at + (k - at) ≡ k = omega arith in rw e at (f (k - at) (omega (arith, q))))
-            (order k at);
+        zero = λ k o u. ⊎_elim (λ (i : k < at). z.zero k o i) (λ (i : at ≤ k). here k i u) (cases_lt k at);
       }
+    where
+      long : length (take m (drop at bytes)) ≡ n
+      long = length-take-le m (drop at bytes) (rw length-drop (omega arith)) ∙ e
+
+      here : (k : ℕ) → at ≤ k → k < at + n → get_or bytes k 0 ≡ 0
+      here k i u =
+          let s : at + (k - at) ≡ k = omega arith in
+          let there : k - at < m = omega arith in
+          let same = get_or-take m (drop at bytes) (k - at) 0 there ∙ get_or-drop at bytes (k - at) 0 in
+          rw s at (sym same ∙ q.zero b (k - at) (omega (arith, long)))
 
   pub zeros_then : {mid to : ℕ} → Zeros bytes from end mid → Zeros bytes mid end to → Zeros bytes from end to
   zeros_then {mid} y z =
       record {
         onward = omega (arith, y.onward, z.onward);
         inside = z.inside;
-        zero = λ k p q. ⊎_elim (λ (l : k < mid). y.zero k p l) (λ (l : mid ≤ k). z.zero k l q) (order k mid);
+        zero = λ k p q. ⊎_elim (λ (l : k < mid). y.zero k p l) (λ (l : mid ≤ k). z.zero k l q) (cases_lt k mid);
       }
 
 -- ---- a unit of a command that has no effect
@@ -125,7 +120,7 @@ unfolding there_at
 there_within bytes at n e =
     let a : Bool = leb at (length bytes) in
     let b : Bool = leb n (length bytes - at) in
-    (leb-true at (length bytes) (and_left a b e), leb-true n (length bytes - at) (and_right a b e))
+    (leb-true at (length bytes) (and_parts a b e).0, leb-true n (length bytes - at) (and_parts a b e).1)
 
 by_there : (bytes : List ℕ) (at n : ℕ) (s : Core) (t : Bool) → there_at bytes at n ≡ t → (n ≤ length bytes - at → One bytes at s n s)
     → Moves bytes at s 1 (cond t 1 0) (cond t (at + n) at) s

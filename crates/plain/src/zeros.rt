@@ -10,28 +10,27 @@ const WIDE: usize = 128;
 
 const NARROW: usize = 8;
 
-// All bits that so many bytes from a place on have.
-fn bits(bytes: &[u8], at: usize, n: usize) -> u8
-    requires { at + n ≤ length bytes.now }
-    ensures { Quiet bytes.now at n result }
+// All bits that the bytes of a block have.
+fn bits(block: &[u8]) -> u8
+    ensures { Quiet block.now result }
 {
     let mut all: u8 = 0;
-    let mut i: usize = 0;
-    while i < n {
-        all = all | bytes[at + i];
-        i += 1;
+    for byte in block {
+        all |= *byte;
     }
     all
 }
 
 // Past the zeros from a place on, so many at a time.
+// Bytes and places: the place that is answered is one of the whole list.
 fn skim(bytes: &[u8], from: usize, end: usize, n: usize) -> usize
     requires { (1 ≤ n) × ((from ≤ end) × (end ≤ length bytes.now)) }
     ensures { Zeros bytes.now from end result }
 {
     let mut at = from;
+    // A `while`: the place that it comes to is the answer, and what is shorter than a block is left.
     while n <= end - at {
-        if bits(bytes, at, n) != 0 {
+        if bits(&bytes[at..at + n]) != 0 {
             return at;
         }
         at += n;
@@ -44,12 +43,7 @@ fn end_of(count: usize, from: usize, most: u32) -> usize
     requires { from ≤ count }
     ensures { (from ≤ result) × ((result ≤ count) × (result ≤ from + most)) }
 {
-    let allowed = most as usize;
-    if count - from < allowed {
-        count
-    } else {
-        from + allowed
-    }
+    from + (count - from).min(most as usize)
 }
 
 // The bytes 00 from a place on, at most so many: each is a unit.

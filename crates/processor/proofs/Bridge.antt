@@ -16,7 +16,7 @@ use Rattle.fifo.specs.Window.{Ready, count_of}
 use Rattle.cursor.specs.Cursor.{opened, peeked}
 use Rattle.cursor.proofs.CursorLaws.{reads_pending}
 use Rattle.queue.proofs.Pending.{length_pending}
-use Rattle.unit.specs.declared.StepAnswer.{StepAnswer}
+use Rattle.command.specs.declared.StepAnswer.{StepAnswer}
 use Rattle.machine.specs.State.{State}
 use Rattle.unit.specs.Answers.{meaning}
 use Rattle.processor.specs.Step.{queue_of, look_at, executed, after}

@@ -14,8 +14,8 @@ use Rattle.fifo.specs.Window.{Ready, consume}
 use Rattle.cursor.specs.Cursor.{opened, closed}
 use Rattle.cursor.proofs.CursorLaws.{reads_pending}
 use Rattle.queue.proofs.Moves.{consume_none}
-use Rattle.unit.specs.declared.StepAnswer.{StepAnswer}
-use Rattle.unit.specs.declared.StepAnswer.TheVariants.{Refused}
+use Rattle.command.specs.declared.StepAnswer.{StepAnswer}
+use Rattle.command.specs.declared.StepAnswer.TheVariants.{Refused}
 use Rattle.machine.specs.State.{State, state_of}
 use Rattle.machine.specs.Gate.{gate_of}
 use Rattle.processor.specs.Step.{look_at, executed, after, step_found, step_of, Steps}

@@ -1,6 +1,6 @@
 -- Document 02, L6, "Looking and taking are two things": each field is a law of the two calls' contracts, as they stand (proofs/Looks).
 use Rattle.std.specs.Prelude.{◌≡◌, List, ℕ}
-use Rattle.unit.specs.declared.StepAnswer.{StepAnswer}
+use Rattle.command.specs.declared.StepAnswer.{StepAnswer}
 use Rattle.processor.specs.declared.taking.TakenUnit.{TakenUnit}
 use Rattle.machine.specs.State.{State, state_of}
 use Rattle.unit.specs.Answers.{meaning}

@@ -1,6 +1,6 @@
 -- One unit of the stream: looked at, executed, consumed ("Units of the stream"; demand 2). Document 02, L6: "where the mission, document 01
--- or another ticket says step, read taking". What a look answers, and a taking too, is `step_found`; what a taking leaves is `step_of`, and a
--- look leaves everything as it was.
+-- or another ticket says step, read taking". What a look answers, and a taking too, is `step_found`; what a taking leaves is `step_of`, and
+-- a look leaves everything as it was.
 use Rattle.std.specs.Prelude.{◌≡◌, List, ℕ, length, take}
 use Rattle.command.specs.Command.{Found, unit, waiting, refused}
 use Rattle.command.specs.Look.{unless_refused, look_of}

@@ -1,13 +1,13 @@
 // The next unit taken: looked at, executed, consumed.
+// The gate first, as in a look and a run, each with an answer of its own. All is lent apart: C has BP registers among its words.
 ghost use Rattle.machine.specs.State.{state_of};
 ghost use Rattle.processor.specs.Step.{Steps};
 
-use command::Draw;
+use command::{Draw, StepAnswer};
 use fifo::Fifo;
-use machine::Gate;
-use unit::StepAnswer;
 
 // What a taking leaves of the fifo and the draw, and its answer.
+// Told beside every answer, a refusal too (`Steps`); `Moved` is the same of a cursor.
 #[derive(Clone, Copy)]
 pub struct TakenUnit {
     pub fifo: Fifo,
@@ -29,22 +29,18 @@ pub fn take(
         (state_of fifo cp.old bp.old draw xf.old buffer.old)
         result cp.new bp.new xf.new buffer.new }
 {
-    let gate = machine::pass(fifo, cp, bp, draw, ring.len(), xf.len(), buffer.len());
-    match gate {
-        Gate::Refused(reason) => TakenUnit {
+    match machine::pass(fifo, cp, bp, draw, ring.len(), xf.len(), buffer.len()) {
+        Err(reason) => TakenUnit {
             fifo,
             draw,
             answer: StepAnswer::Refused(reason),
         },
-        Gate::Passed => {
+        Ok(()) => {
             let moved = unit::take_at(cursor::open(fifo), ring, cp, bp, draw, xf, buffer);
-            let draw = moved.draw;
-            let answer = moved.answer;
-            let cursor = moved.cursor;
             TakenUnit {
-                fifo: cursor::close(fifo, cursor),
-                draw,
-                answer,
+                fifo: cursor::close(fifo, moved.cursor),
+                draw: moved.draw,
+                answer: moved.answer,
             }
         }
     }

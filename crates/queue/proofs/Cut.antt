@@ -7,7 +7,7 @@ use native.Mathlib.Nat.{mod-eq_of_lt}
 use native.Mathlib.Omega.{arith}
 use lib.ListN.{length, get_or, length-append, get_or-append}
 use lib.Seq.{ext_get_or, get_or-append-add}
-use Rattle.laws.proofs.Cases.{order}
+use Rattle.std.proofs.lemmas.Bool.{cases_lt}
 use Rattle.laws.proofs.Remainder.{mod_once}
 use Rattle.fifo.specs.declared.Window.{Window}
 use Rattle.fifo.specs.declared.Fifo.{Fifo}
@@ -32,7 +32,7 @@ reach at size j a h =
     (λ l.
     let e : at + (j - at) ≡ j = omega arith in
     record { steps = j - at; below = omega arith; place = sym (ap (λ (x : ℕ). x % size) e ∙ mod-eq_of_lt h) })
-    (order j at)
+    (cases_lt j at)
 
 -- ---- two feeds that both find room
 
@@ -103,8 +103,8 @@ module _ (f : Fifo) (ring a b : List ℕ) (fit : Fits f (length ring) (length a 
       kept i h (inr m) ∙
       fed_past f ring a fit_a i h (omega arith) ∙
       sym (fed_past f ring (a ++ b) fit_both i h (omega arith)))
-      (order i (length a + length b)))
-      (order i (length a))
+      (cases_lt i (length a + length b)))
+      (cases_lt i (length a))
 
   pub fed_cut : fed (accept f (length a)).window (fed f.window ring a) b ≡ fed f.window ring (a ++ b)
   fed_cut =

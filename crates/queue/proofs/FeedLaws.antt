@@ -9,11 +9,11 @@ use lib.Dec.{leb}
 use lib.ListN.{length, get_or, length-append, get_or-append}
 use lib.Seq.{ext_get_or, get_or-append-add}
 use borrow.Author.Tests.{leb-true, le-leb, lt-leb, eqb-true}
-use Rattle.laws.proofs.Cases.{order, tested}
+use Rattle.std.proofs.lemmas.Bool.{cases_Bool, cases_lt}
+use Rattle.std.specs.Prelude.{Ok, Err}
 use Rattle.refusal.specs.declared.Reason.{Reason}
 use Rattle.refusal.specs.declared.Reason.TheVariants.{InvalidState, FeedTooLong}
 use Rattle.refusal.specs.Number.{number}
-use Rattle.fifo.specs.declared.Answer.TheVariants.{Accepted, Refused}
 use Rattle.fifo.specs.declared.Window.{Window}
 use Rattle.fifo.specs.declared.Fifo.{Fifo}
 use Rattle.fifo.specs.Window.{size_of, Ready, ready_by, count_of, accept, place_after}
@@ -112,7 +112,7 @@ module _ (f : Fifo) (ring bytes : List ℕ) (a : Fits f (length ring) (length by
       ap (λ (x : ℕ). get_or after x 0) (sym (write_after w v i)) ∙
       fed_at i (omega arith) ∙
       sym (ap (λ (x : ℕ). get_or (pending w ring ++ bytes) x 0) (sym r) ∙ get_or-append-add (pending w ring) bytes i 0))
-      (order k (count_of w)))
+      (cases_lt k (count_of w)))
 
 -- bytes that find room are accepted
 pub fits_accepted : (f : Fifo) (ring bytes : List ℕ) → Fits f (length ring) (length bytes) → accepted f ring bytes ≡ true
@@ -129,7 +129,7 @@ module _ (f : Fifo) (ring bytes : List ℕ) where
       ⊎_elim
       (λ t. rw t (pending_fed f ring bytes (accepted_fits f ring bytes t)))
       (λ t. rw t (sym (append-nil (pending f.window ring))))
-      (tested (accepted f ring bytes))
+      (cases_Bool (accepted f ring bytes))
 
   -- "bytes accepted .. equals the change in count"
   pub count_after : count_of (fifo_after f ring bytes).window ≡ count_of f.window + length (bytes_accepted f ring bytes)
@@ -147,7 +147,7 @@ module _ (f : Fifo) (ring bytes : List ℕ) where
       let e : length (fed f.window ring bytes) ≡ length ring = length_fed f ring bytes (accepted_fits f ring bytes t) in
       rw t (subst (λ (m : ℕ). Ready (accept f (length bytes)) m) (sym e) (ready_accept f (length ring) r (length bytes))))
       (λ t. rw t r)
-      (tested (accepted f ring bytes))
+      (cases_Bool (accepted f ring bytes))
 
 -- ---- the three answers
 
@@ -174,27 +174,27 @@ refused_left f ring bytes t = (rw t, rw t)
 -- a refused feed gives back what it was handed
 refused_keeps : (f : Fifo) (ring bytes : List ℕ) (r : Reason)
     → feed_refusal f (length ring) (length bytes) ≡ number r → accepted f ring bytes ≡ false
-    → FedBy f ring bytes (record { fifo = f; answer = Refused r }) ring
+    → FedBy f ring bytes (Err r) f ring
 refused_keeps f ring bytes r e t =
     let l = refused_left f ring bytes t in
     record { answer_is = ap (λ (n : ℕ). n ∷ []) (sym e); fifo_is = sym l.0; ring_is = sym l.1 }
 
 pub feed_unready : (f : Fifo) (ring bytes : List ℕ) → ready_by f (length ring) ≡ false
-    → FedBy f ring bytes (record { fifo = f; answer = Refused InvalidState }) ring
+    → FedBy f ring bytes (Err InvalidState) f ring
 unfolding accepted
 feed_unready f ring bytes e =
     let z : feed_refusal f (length ring) (length bytes) ≡ 1 = refused_unready f (length ring) (length bytes) e in
     refused_keeps f ring bytes InvalidState z (rw z)
 
 pub feed_long : (f : Fifo) (ring bytes : List ℕ) → Ready f (length ring) → room_of f.window < length bytes
-    → FedBy f ring bytes (record { fifo = f; answer = Refused FeedTooLong }) ring
+    → FedBy f ring bytes (Err FeedTooLong) f ring
 unfolding accepted
 feed_long f ring bytes r h =
     let z : feed_refusal f (length ring) (length bytes) ≡ 11 = refused_long f (length ring) (length bytes) r h in
     refused_keeps f ring bytes FeedTooLong z (rw z)
 
 pub feed_fits : (f : Fifo) (ring bytes : List ℕ) → Fits f (length ring) (length bytes) → (g : Fifo) (after : List ℕ)
-    → g ≡ accept f (length bytes) → after ≡ fed f.window ring bytes → FedBy f ring bytes (record { fifo = g; answer = Accepted }) after
+    → g ≡ accept f (length bytes) → after ≡ fed f.window ring bytes → FedBy f ring bytes (Ok tt) g after
 unfolding fifo_after ring_after
 feed_fits f ring bytes a g after p q =
     let t : accepted f ring bytes ≡ true = fits_accepted f ring bytes a in

@@ -11,7 +11,7 @@ use lib.Dec.{eqb}
 use lib.ListN.{length, get_or, set, take, drop, length-append, take-append-drop}
 use lib.Seq.{set_split, append_snoc}
 use borrow.Author.Tests.{eqb-true, eqb-false, ne_eqb}
-use Rattle.laws.proofs.Cases.{order, tested, cond_both}
+use Rattle.std.proofs.lemmas.Bool.{cases_Bool, cases_lt, cond_both}
 use Rattle.fifo.specs.declared.Window.{Window}
 use Rattle.fifo.specs.declared.Fifo.{Fifo}
 use Rattle.fifo.specs.Window.{size_of, Valid, Ready, ready_by, count_of, accept, with_window, with_write}
@@ -59,7 +59,7 @@ of_ring : (P : List ℕ → Type 0) (s : FifoRing) (bytes : List ℕ)
     → P (after_feed s bytes).ring
 unfolding ring_after
 of_ring P s bytes f p =
-    cond_both P (accepted s.fifo s.ring bytes) (λ t. f (accepted_fits s.fifo s.ring bytes t)) (λ _. p)
+    cond_both (accepted s.fifo s.ring bytes) _ _ P (λ t. f (accepted_fits s.fifo s.ring bytes t)) (λ _. p)
 
 other_place : (s : FifoRing) (bytes : List ℕ) (j : ℕ) → Elsewhere s (length bytes) j
     → get_or (after_feed s bytes).ring j 0 ≡ get_or s.ring j 0
@@ -106,7 +106,7 @@ module _ (s : FifoRing) (a b : List ℕ) where
       sym
       (refused_long (accept f (length a)) (length (fed f.window s.ring a)) (length b)
       none.ready (omega (arith, h, c))))
-      (order (count_of f.window + (length a + length b)) (size_of f.window)))
+      (cases_lt (count_of f.window + (length a + length b)) (size_of f.window)))
 
   cut_answer : Cut
   cut_answer =
@@ -117,9 +117,9 @@ module _ (s : FifoRing) (a b : List ℕ) where
       ⊎_elim
       (λ h. cut_long r h)
       (λ h. cut_fits (record { ready = r; room = omega (arith, h) }))
-      (order (room_of s.fifo.window) (length a)))
+      (cases_lt (room_of s.fifo.window) (length a)))
       cut_unready
-      (tested (ready_by s.fifo (length s.ring)))
+      (cases_Bool (ready_by s.fifo (length s.ring)))
 
   cut_after : feed_answer s (a ++ b) ≡ 0 → after_feed s (a ++ b) ≡ after_feed (after_feed s a) b
   cut_after e =
@@ -135,7 +135,8 @@ module _ (s : FifoRing) (a b : List ℕ) where
       (ap (λ (t : FifoRing). after_feed t b) (after_fits s a (fit_a f s.ring a b both)) ∙
       after_fits (filled s a) b (fit_b f s.ring a b both))
 
-pub both_accepted : (s : FifoRing) (a b : List ℕ) → feed_answer s (a ++ b) ≡ 0 → (feed_answer s a ≡ 0) × (feed_answer (after_feed s a) b ≡ 0)
+pub both_accepted : (s : FifoRing) (a b : List ℕ) → feed_answer s (a ++ b) ≡ 0
+    → (feed_answer s a ≡ 0) × (feed_answer (after_feed s a) b ≡ 0)
 both_accepted s a b e = or_zero (feed_answer s a) (feed_answer (after_feed s a) b) (sym (cut_answer s a b) ∙ e)
 
 -- an answer is the first refusal of itself and 0
@@ -162,7 +163,7 @@ accept_one : (f : Fifo) → Valid f.window → accept f 1 ≡ with_window f (wit
 accept_one f v =
     let w : Window = f.window in
     sym
-    (cond_both (λ (p : ℕ). with_window f (with_write w p) ≡ accept f 1) (eqb (w.write + 1) w.end)
+    (cond_both (eqb (w.write + 1) w.end) _ _ (λ (p : ℕ). with_window f (with_write w p) ≡ accept f 1)
     (λ t.
     let e : w.write + 1 ≡ w.end = eqb-true (w.write + 1) w.end t in
     let p : w.start ≡ w.start + (1 - (w.end - w.write)) = omega arith in

@@ -7,7 +7,7 @@ use native.Mathlib.Nat.{mod-add-mod, add-sub_cancel_left}
 use native.Mathlib.Omega.{arith}
 use lib.ListN.{length, get_or, drop, length-drop, get_or-eq_default}
 use lib.Seq.{ext_get_or, get_or-drop}
-use Rattle.laws.proofs.Cases.{order}
+use Rattle.std.proofs.lemmas.Bool.{cases_lt}
 use Rattle.laws.proofs.Filled.{length_up_to, get_d_up_to}
 use Rattle.fifo.specs.declared.Window.{Window}
 use Rattle.fifo.specs.declared.Fifo.{Fifo}
@@ -20,7 +20,8 @@ unfolding pending
 length_pending w ring = length_up_to (λ k. get_or ring (place_after w w.read k) 0) (count_of w)
 
 -- the pending byte at k, and past the last
-pub pending_at : (w : Window) (ring : List ℕ) (k : ℕ) → k < count_of w → get_or (pending w ring) k 0 ≡ get_or ring (place_after w w.read k) 0
+pub pending_at : (w : Window) (ring : List ℕ) (k : ℕ) → k < count_of w
+    → get_or (pending w ring) k 0 ≡ get_or ring (place_after w w.read k) 0
 unfolding pending
 pending_at w ring k h = get_d_up_to (λ i. get_or ring (place_after w w.read i) 0) (count_of w) k h
 
@@ -61,4 +62,4 @@ pending_each P w ring z each k =
     ⊎_elim
     (λ h. subst P (sym (pending_at w ring k h)) (each (place_after w w.read k)))
     (λ h. subst P (sym (pending_past w ring k h)) z)
-    (order k (count_of w))
+    (cases_lt k (count_of w))

@@ -1,8 +1,8 @@
 -- Document 01, "Feeding starts at the write pointer and wraps; only the fed places change."
-use Rattle.std.specs.Prelude.{ℕ, ◌+◌, ◌-◌, ◌≡◌, Bool, cond, List, [], ◌∷◌, ◌++◌, leb, eqb, length, take, drop}
+use Rattle.std.specs.Prelude.{ℕ, ◌+◌, ◌-◌, ◌≡◌, Bool, cond, List, [], ◌∷◌, ◌++◌, leb, eqb, length, take, drop, Result}
+use Rattle.refusal.specs.declared.Reason.{Reason}
 use Rattle.fifo.specs.declared.Window.{Window}
 use Rattle.fifo.specs.declared.Fifo.{Fifo}
-use Rattle.fifo.specs.declared.Changed.{Changed}
 use Rattle.fifo.specs.Window.{size_of, ready_by, count_of, accept}
 use Rattle.fifo.specs.Answers.{meaning_of}
 
@@ -15,8 +15,8 @@ unfoldable pub feed_refusal : Fifo → ℕ → ℕ → ℕ
 feed_refusal f ring n = cond (ready_by f ring) (cond (leb n (room_of f.window)) 0 11) 1
 
 -- a list with some of its elements, from a place on, replaced
-abbrev pub put : List ℕ → ℕ → List ℕ → List ℕ
-put ring at bytes = take at ring ++ bytes ++ drop (at + length bytes) ring
+abbrev pub put : {A : Type 0} → List A → ℕ → List A → List A
+put list at values = take at list ++ values ++ drop (at + length values) list
 
 -- two straight stretches: the first bytes from a place on, as many as there is room for to the ring's end, and the rest from place 0
 unfoldable pub put_round : List ℕ → ℕ → ℕ → List ℕ → List ℕ
@@ -41,8 +41,8 @@ fifo_after f ring bytes = cond (accepted f ring bytes) (accept f (length bytes))
 unfoldable pub ring_after : Fifo → List ℕ → List ℕ → List ℕ
 ring_after f ring bytes = cond (accepted f ring bytes) (fed f.window ring bytes) ring
 
--- what a feed gives: its answer, the fifo, and the ring
-pub record FedBy (f : Fifo) (ring bytes : List ℕ) (r : Changed) (after : List ℕ) : Type 0 where
-  pub answer_is : meaning_of r.answer ≡ feed_refusal f (length ring) (length bytes) ∷ []
-  pub fifo_is : r.fifo ≡ fifo_after f ring bytes
+-- what a feed gives: its answer, and the fifo and the ring that it leaves
+pub record FedBy (f : Fifo) (ring bytes : List ℕ) (r : Result (Unit {0}) Reason) (left : Fifo) (after : List ℕ) : Type 0 where
+  pub answer_is : meaning_of r ≡ feed_refusal f (length ring) (length bytes) ∷ []
+  pub fifo_is : left ≡ fifo_after f ring bytes
   pub ring_is : after ≡ ring_after f ring bytes

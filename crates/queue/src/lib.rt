@@ -2,21 +2,25 @@
 #![tactic(auto)]
 
 ghost use Rattle.std.specs.Prelude.{◌≡◌, ◌+◌, ◌≤◌, ◌<◌, length};
-ghost use Rattle.fifo.specs.Window.{size_of, Valid, accept};
-ghost use Rattle.queue.specs.Feeding.{put, put_round, FedBy};
+ghost use Rattle.fifo.specs.Window.{size_of, Valid, Ready, count_of, accept};
+ghost use Rattle.queue.specs.Feeding.{room_of, put, put_round, fed, FedBy};
 
-use fifo::{Answer, Changed, Fifo, gap, ready, with_window};
+use fifo::{Fifo, Window, gap, ready, size};
 use refusal::Reason;
 
-// Stores bytes in the ring from a place on.
-fn store(ring: &mut [u8], at: usize, bytes: &[u8])
-    requires { at + length bytes.now ≤ length ring.old }
-    ensures { ring.new ≡ put ring.old at bytes.now }
+// Stores values from a place on; nothing where they do not all find room.
+pub fn store<T: Copy>(out: &mut [T], at: usize, values: &[T])
+    ensures fits { at + length values.now ≤ length out.old → out.new ≡ put out.old at values.now }
+    ensures past_end { length out.old < at + length values.now → out.new ≡ out.old }
+    ensures len { length out.new ≡ length out.old }
 {
-    ring[at..at + bytes.len()].copy_from_slice(bytes);
+    if at <= out.len() && values.len() <= out.len() - at {
+        out[at..at + values.len()].copy_from_slice(values);
+    }
 }
 
 // Stores bytes from a place on and, past the ring's end, which is `straight` bytes on, from its start.
+// `straight` is told and not computed: `fed` has it of the window, its end less the write pointer.
 fn store_round(ring: &mut [u8], at: usize, straight: usize, bytes: &[u8])
     requires { (at + straight ≡ length ring.old) × (length bytes.now < length ring.old) }
     ensures { ring.new ≡ put_round ring.old at straight bytes.now }
@@ -29,45 +33,55 @@ fn store_round(ring: &mut [u8], at: usize, straight: usize, bytes: &[u8])
     store(ring, 0, &bytes[straight..]);
 }
 
-// The fifo with its write pointer n bytes on.
-fn accepting(fifo: Fifo, n: u32) -> Fifo
-    requires { Valid fifo.window × (n < size_of fifo.window) }
-    ensures { result ≡ accept fifo n }
+// Moves the write pointer n bytes on.
+fn accept(fifo: &mut Fifo, n: u32)
+    requires { Valid fifo.old.window × (n < size_of fifo.old.window) }
+    ensures { fifo.new ≡ accept fifo.old n }
 {
-    let mut window = fifo.window;
+    let window = fifo.window;
     let straight = window.end - window.write;
-    if n < straight {
-        window.write = window.write + n;
-        return with_window(fifo, window);
-    }
-    window.write = window.start + (n - straight);
-    with_window(fifo, window)
+    fifo.window.write = if n < straight {
+        window.write + n
+    } else {
+        window.start + (n - straight)
+    };
+}
+
+// How many bytes may be fed.
+#[tactic(auto, using(fifo::proofs::WindowLaws::gap_count, fifo::proofs::WindowLaws::count_below))]
+fn room(window: Window) -> u32
+    requires { Valid window }
+    ensures { result ≡ room_of window }
+{
+    size(window) - 1 - gap(window)
+}
+
+// Stores bytes that find room at the write pointer, and moves it on.
+#[tactic(auto, unfolding(crate::specs::Feeding::fed))]
+fn append(fifo: &mut Fifo, ring: &mut [u8], bytes: &[u8])
+    requires ready { Ready fifo.old (length ring.old) }
+    requires room { count_of fifo.old.window + length bytes.now < size_of fifo.old.window }
+    ensures fifo_is { fifo.new ≡ accept fifo.old (length bytes.now) }
+    ensures ring_is { ring.new ≡ fed fifo.old.window ring.old bytes.now }
+{
+    let window = fifo.window;
+    let at = window.write - window.start;
+    let straight = window.end - window.write;
+    store_round(ring, at as usize, straight as usize, bytes);
+    accept(fifo, bytes.len() as u32);
 }
 
 // Feeds bytes: 1 for a window or a ring that breaks the rules, then 11 for more bytes than there is room for;
 // a refused feed changes nothing.
-pub fn feed(fifo: Fifo, ring: &mut [u8], bytes: &[u8]) -> Changed
-    ensures { FedBy fifo ring.old bytes.now result ring.new }
+pub fn feed(fifo: &mut Fifo, ring: &mut [u8], bytes: &[u8]) -> Result<(), Reason>
+    ensures { FedBy fifo.old ring.old bytes.now result fifo.new ring.new }
 {
-    if !ready(fifo, ring.len()) {
-        return Changed {
-            fifo,
-            answer: Answer::Refused(Reason::InvalidState),
-        };
+    if !ready(*fifo, ring.len()) {
+        return Err(Reason::InvalidState);
     }
-    let window = fifo.window;
-    let room = window.end - window.start - 1 - gap(window);
-    if bytes.len() > room as usize {
-        return Changed {
-            fifo,
-            answer: Answer::Refused(Reason::FeedTooLong),
-        };
+    if bytes.len() > room(fifo.window) as usize {
+        return Err(Reason::FeedTooLong);
     }
-    let at = window.write - window.start;
-    let straight = window.end - window.write;
-    store_round(ring, at as usize, straight as usize, bytes);
-    Changed {
-        fifo: accepting(fifo, bytes.len() as u32),
-        answer: Answer::Accepted,
-    }
+    append(fifo, ring, bytes);
+    Ok(())
 }

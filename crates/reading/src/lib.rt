@@ -1,136 +1,121 @@
 // The bytes that a cursor stands before, read: copied to the front of a list, or the first nine. Total by definition.
 #![tactic(auto)]
 
-ghost use Rattle.std.specs.Prelude.{◌≡◌, ◌++◌, ◌+◌, ◌≤◌, min, length, take, drop};
+ghost use Rattle.std.specs.Prelude.{◌≡◌, ◌+◌, ◌<◌, ◌≤◌, ◌^◌, length, slice_range};
 ghost use Rattle.laws.specs.Values.{up_to};
-ghost use Rattle.queue.specs.Feeding.{put};
 ghost use Rattle.cursor.specs.Cursor.{byte_of, peeked, copied};
-ghost use Rattle.reading.specs.Inner.{round_by};
+ghost use Rattle.reading.specs.Inner.{round_by, Round};
 
 use cursor::{Cursor, forward, straight};
-use fifo::minus;
 
-// The cursor's byte k, 0 past the last.
-fn byte(cursor: Cursor, ring: &[u8], k: u32) -> u8
-    ensures { result ≡ byte_of cursor ring.now k }
-{
-    if cursor.left <= k {
-        return 0;
-    }
-    let place = forward(cursor.at, k, cursor.size) as usize;
-    if place < ring.len() { ring[place] } else { 0 }
+// A cursor before the ring whose bytes it counts.
+#[derive(Clone, Copy)]
+struct Pending<'a> {
+    cursor: Cursor,
+    ring: &'a [u8],
 }
 
-// Copies byte after byte, for cursors and lengths that fit neither other way: past the last byte, or a ring shorter than the cursor's size.
-fn gather(cursor: Cursor, ring: &[u8], out: &mut [u8], n: u32)
-    requires { n ≤ length out.old }
-    ensures { out.new ≡ up_to (byte_of cursor ring.now) n ++ drop n out.old }
-{
-    let mut k: u32 = 0;
-    while k < n {
-        out[k as usize] = byte(cursor, ring, k);
-        k += 1;
+impl Pending<'_> {
+    // The cursor's byte k, 0 past the last.
+    #[tactic(auto, unfolding(cursor::specs::Cursor::byte_of))]
+    fn byte(self, k: u32) -> u8
+        ensures { result ≡ byte_of self.entry.cursor self.entry.ring.now k }
+    {
+        let cursor = self.cursor;
+        if cursor.left <= k {
+            return 0;
+        }
+        let place = forward(cursor.at, k, cursor.size) as usize;
+        self.ring.get(place).copied().unwrap_or(0)
     }
-}
 
-// Whether the first n bytes are there and lie in two stretches, up to the cursor's size and from the ring's first byte on.
-fn round(cursor: Cursor, ring: usize, n: u32) -> bool
-    ensures { result ≡ round_by cursor ring n }
-{
-    let first = minus(cursor.size, cursor.at);
-    let there = (n <= cursor.left) & (cursor.at <= cursor.size);
-    there & ((first <= n) & ((cursor.size as usize <= ring) & (minus(n, first) as usize <= ring)))
-}
-
-// Stores bytes in the output from a place on.
-fn store(out: &mut [u8], at: usize, bytes: &[u8])
-    requires { at + length bytes.now ≤ length out.old }
-    ensures { out.new ≡ put out.old at bytes.now }
-{
-    out[at..at + bytes.len()].copy_from_slice(bytes);
-}
-
-// Copies n bytes that are not straight: in two stretches where they lie so.
-fn copy_round(cursor: Cursor, ring: &[u8], out: &mut [u8], n: u32)
-    requires { n ≤ length out.old }
-    ensures { out.new ≡ up_to (byte_of cursor ring.now) n ++ drop n out.old }
-{
-    if !round(cursor, ring.len(), n) {
-        gather(cursor, ring, out, n);
-        return;
+    // Fills a list byte after byte, for cursors and lengths that fit neither other way: past the last byte, or a ring shorter than the
+    // cursor's size.
+    fn gather(self, out: &mut [u8])
+        requires { length out.old < 2 ^ 32 }
+        ensures { out.new ≡ up_to (byte_of self.entry.cursor self.entry.ring.now) (length out.old) }
+    {
+        // By index: of what iter_mut went over a proof knows only the length.
+        for k in 0..out.len() {
+            out[k] = self.byte(k as u32);
+        }
     }
-    let first = (cursor.size - cursor.at) as usize;
-    let rest = n as usize - first;
-    store(out, 0, &ring[cursor.at as usize..cursor.size as usize]);
-    store(out, first, &ring[..rest]);
-}
 
-// Copies n bytes, straight where they lie so.
-fn copy_front(cursor: Cursor, ring: &[u8], out: &mut [u8], n: u32)
-    requires { n ≤ length out.old }
-    ensures { out.new ≡ up_to (byte_of cursor ring.now) n ++ drop n out.old }
-{
-    if !straight(cursor, n) {
-        copy_round(cursor, ring, out, n);
-        return;
+    // Whether the first n bytes are there and lie in two stretches, up to the cursor's size and from the ring's first byte on.
+    #[tactic(auto, unfolding(crate::specs::Inner::round_by))]
+    fn round(self, n: u32) -> bool
+        ensures { result ≡ round_by self.entry.cursor (length self.entry.ring.now) n }
+    {
+        let Cursor { at, left, size } = self.cursor;
+        let len = self.ring.len();
+        let first = size.saturating_sub(at);
+        let rest = n.saturating_sub(first);
+        ((n <= left) & (at <= size))
+            & ((first <= n) & ((size as usize <= len) & (rest as usize <= len)))
     }
-    let at = cursor.at as usize;
-    let end = at + n as usize;
-    if ring.len() < end {
-        gather(cursor, ring, out, n);
-        return;
+
+    // Fills a list with bytes that lie in two stretches.
+    fn fill_round(self, out: &mut [u8])
+        requires { Round self.cursor (length self.ring.now) (length out.old) }
+        ensures { out.new ≡ up_to (byte_of self.entry.cursor self.entry.ring.now) (length out.old) }
+    {
+        let at = self.cursor.at as usize;
+        let size = self.cursor.size as usize;
+        let (front, back) = out.split_at_mut(size - at);
+        let rest = back.len();
+        front.copy_from_slice(&self.ring[at..size]);
+        back.copy_from_slice(&self.ring[..rest]);
     }
-    store(out, 0, &ring[at..end]);
+
+    // Fills a list with the first bytes, in one stretch or two where they lie so.
+    fn fill(self, out: &mut [u8])
+        requires { length out.old < 2 ^ 32 }
+        ensures { out.new ≡ up_to (byte_of self.entry.cursor self.entry.ring.now) (length out.old) }
+    {
+        let n = out.len() as u32;
+        let at = self.cursor.at as usize;
+        let end = at + out.len();
+        if straight(self.cursor, n) & (end <= self.ring.len()) {
+            out.copy_from_slice(&self.ring[at..end]);
+        } else if self.round(n) {
+            self.fill_round(out);
+        } else {
+            self.gather(out);
+        }
+    }
 }
 
 // Copies the first n bytes to the front of `out`, or as many as it has place for; the rest of it stays.
+// `n` beside `out`: `copied` has both, since n may be more than the list has place for.
+#[tactic(auto, unfolding(cursor::specs::Cursor::copied))]
 pub fn copy(cursor: Cursor, ring: &[u8], out: &mut [u8], n: u32)
     ensures { out.new ≡ copied cursor ring.now out.old n }
 {
-    if n as usize <= out.len() {
-        copy_front(cursor, ring, out, n);
-        return;
-    }
-    let n = out.len() as u32;
-    copy_front(cursor, ring, out, n);
-}
-
-// The less of two.
-fn least(a: u32, b: u32) -> u32
-    ensures { result ≡ min a b }
-{
-    if a < b { a } else { b }
+    let n = out.len().min(n as usize);
+    Pending { cursor, ring }.fill(&mut out[..n]);
 }
 
 // Nine bytes of the ring from a place on.
 fn nine(ring: &[u8], at: usize) -> [u8; 9]
     requires { at + 9 ≤ length ring.now }
-    ensures { result ≡ take 9 (drop at ring.now) }
+    ensures { result ≡ slice_range ring.now at (at + 9) }
 {
-    [
-        ring[at],
-        ring[at + 1],
-        ring[at + 2],
-        ring[at + 3],
-        ring[at + 4],
-        ring[at + 5],
-        ring[at + 6],
-        ring[at + 7],
-        ring[at + 8],
-    ]
+    let mut bytes = [0u8; 9];
+    bytes.copy_from_slice(&ring[at..at + 9]);
+    bytes
 }
 
 // The first nine bytes, zeros past the last.
+// Nine bytes and no slice: `peeked` has zeros past the last, and a look reads its opcode's fields at fixed places.
 pub fn peek(cursor: Cursor, ring: &[u8]) -> [u8; 9]
     ensures { result ≡ peeked cursor ring.now }
 {
     let at = cursor.at as usize;
-    if straight(cursor, 9) {
-        if at + 9 <= ring.len() {
-            return nine(ring, at);
-        }
+    if straight(cursor, 9) & (at + 9 <= ring.len()) {
+        return nine(ring, at);
     }
     let mut bytes = [0u8; 9];
-    copy(cursor, ring, &mut bytes, least(cursor.left, 9));
+    let there = cursor.left.min(9);
+    copy(cursor, ring, &mut bytes, there);
     bytes
 }

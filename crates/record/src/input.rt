@@ -1,7 +1,7 @@
 // The inputs: how one is read, and how one that is open is opened once more. Linux tells of a descriptor in a file of its own, and a path
 // leads to what is open on it.
-use crate::pass;
-use crate::pass::{Again, Pass};
+use crate::failure::Failure;
+use crate::pass::Again;
 use std::alloc::Global;
 use std::fs;
 use std::io::{Cursor, Read, Seek, SeekFrom};
@@ -18,26 +18,17 @@ const OTHER: &str = "/proc/self/fd/3";
 
 const OTHER_TOLD: &str = "/proc/self/fdinfo/3";
 
-// The bytes that were read, and whether the read behind them failed.
-#[derive(Drop)]
-pub struct Got {
-    pub bytes: Vec<u8>,
-    pub is_failed: bool,
-}
-
-// Reads an input from where it stands to its end, or until there are `most` bytes.
-pub fn read(alloc: Global, input: &mut impl Read, most: usize) -> Got {
+// The first pass over an input that has no places: at most `most` bytes are held in memory, for the second pass. They are counted, where no
+// read failed.
+pub fn hold(
+    alloc: Global,
+    input: &mut impl Read,
+    most: usize,
+) -> (Again<Cursor<Vec<u8>>>, Result<usize, Failure>) {
     let mut bytes = Vec::new(alloc);
-    let mut part = input.by_ref().take(most as u64);
-    let is_failed = part.read_to_end(&mut bytes).is_err();
-    Got { bytes, is_failed }
-}
-
-// The first pass over an input that has no places: at most `most` bytes are held in memory, for the second pass.
-pub fn hold(alloc: Global, input: &mut impl Read, most: usize) -> (Again<Cursor<Vec<u8>>>, Pass) {
-    let got = read(alloc, input, most);
-    let first = pass::of_held(got.bytes.len(), got.is_failed);
-    (Again::new(Cursor::new(got.bytes)), first)
+    let read = input.by_ref().take(most as u64).read_to_end(&mut bytes);
+    let count = read.map_err(|_| Failure::Unreadable);
+    (Again::new(Cursor::new(bytes)), count)
 }
 
 // How far an input was read by those who had it open before; none where it is not open.

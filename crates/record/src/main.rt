@@ -10,115 +10,81 @@
 // is written before all that is read was found to be in order. How it ended is told by a line on standard error.
 #![tactic(auto)]
 
+mod failure;
 mod input;
-mod load;
 mod pass;
-mod verdict;
+mod start;
 
-use pass::{Again, Pass};
-use recording::HEAD_LENGTH;
+use failure::Failure;
+use pass::Again;
+use start::Start;
 use std::io::{Read, Seek};
 use std::rt::{Env, Files};
-use verdict::Verdict;
 
-// Writes a recording: what stands before the stream, and the stream that was counted.
+// What the program is told to do.
+#[derive(Clone, Copy)]
+enum Task {
+    RecordFresh,
+    RecordByOther,
+    WriteStream,
+}
+
+impl Task {
+    // The task by the first letter of the first argument.
+    fn read(rt: &impl Env) -> Result<Task, Failure> {
+        let mut word = [0u8; 16];
+        let _ = rt.arg(1, &mut word);
+        match word[0] {
+            0 => Ok(Task::RecordFresh),
+            b'r' => Ok(Task::RecordByOther),
+            b's' => Ok(Task::WriteStream),
+            _ => Err(Failure::Unknown),
+        }
+    }
+}
+
+// Refuses an input that is a recording, which begins with 256, the count of its BP registers: no raw stream gets past its third byte with
+// these. It is left where it stood.
+fn refuse_recording<I: Read + Seek>(again: &mut Again<I>) -> Result<(), Failure> {
+    let mut first = [0u8; 4];
+    let is_read = again.input.read_exact(&mut first).is_ok();
+    let _ = again.go_back();
+    if is_read && first == recording::FIRST_BYTES {
+        return Err(Failure::IsRecording);
+    }
+    Ok(())
+}
+
+// Writes a recording: what stands before the stream, and the stream, of which so many bytes were counted.
 fn write_recording<I: Read + Seek>(
     rt: &impl Print,
     again: &mut Again<I>,
-    state: &[u32; 327],
-    xf: &[u32; 4184],
-    stream: Pass,
-) -> Verdict {
-    let mut head = [0u8; HEAD_LENGTH];
-    let mut written: u32 = 0;
-    let number = duckhammock::duckhammock_write_recording_head(
-        state,
-        xf,
-        stream.count,
-        &mut head,
-        &mut written,
-    );
-    if number != 0 {
-        return Verdict::Refused(number);
-    }
-    pass::copy(rt, again, &head, stream)
+    start: &Start,
+    count: usize,
+) -> Result<(), Failure> {
+    let head = start.head(count)?;
+    pass::copy(rt, again, &head, count)
 }
 
-// Records the raw stream on standard input, which is a file, with these registers.
-fn record_file<I: Read + Seek>(
-    rt: &(impl Input + Print),
-    again: &mut Again<I>,
-    state: &[u32; 327],
-    xf: &[u32; 4184],
-) -> Verdict {
-    if load::is_recording(again) {
-        return Verdict::IsRecording;
+// Records the raw stream on standard input. Where it is no file, it is held in memory.
+fn record(rt: &(impl Files + AllocGlobal + Input + Print), start: &Start) -> Result<(), Failure> {
+    let most = recording::STREAM_LIMIT as usize;
+    if let Some(mut again) = input::open_stdin(rt) {
+        refuse_recording(&mut again)?;
+        let count = pass::count(&mut rt.reader(), most)?;
+        return write_recording(rt, &mut again, start, count);
     }
-    let stream = pass::count(&mut rt.reader(), recording::STREAM_LIMIT as usize);
-    if stream.is_failed {
-        return Verdict::Unreadable;
-    }
-    write_recording(rt, again, state, xf, stream)
+    let (mut again, count) = input::hold(rt.alloc(), &mut rt.reader(), most + 1);
+    refuse_recording(&mut again)?;
+    write_recording(rt, &mut again, start, count?)
 }
 
-// The same where it is none: the stream is held in memory.
-fn record_held(
-    rt: &(impl AllocGlobal + Input + Print),
-    state: &[u32; 327],
-    xf: &[u32; 4184],
-) -> Verdict {
-    let most = recording::STREAM_LIMIT as usize + 1;
-    let (mut again, stream) = input::hold(rt.alloc(), &mut rt.reader(), most);
-    if load::is_recording(&mut again) {
-        return Verdict::IsRecording;
-    }
-    if stream.is_failed {
-        return Verdict::Unreadable;
-    }
-    write_recording(rt, &mut again, state, xf, stream)
-}
-
-// Records the raw stream on standard input with these registers.
-fn record(
-    rt: &(impl Files + AllocGlobal + Input + Print),
-    state: &[u32; 327],
-    xf: &[u32; 4184],
-) -> Verdict {
-    match input::open_stdin(rt) {
-        Some(mut again) => record_file(rt, &mut again, state, xf),
-        None => record_held(rt, state, xf),
-    }
-}
-
-// Records it with fresh registers.
-fn record_fresh(rt: &(impl Files + AllocGlobal + Input + Print)) -> Verdict {
-    let mut state = [0u32; 327];
-    let xf = [0u32; 4184];
-    duckhammock::duckhammock_fresh(&mut state);
-    record(rt, &state, &xf)
-}
-
-// Reads the other recording to its end, and closes it.
-fn load_other(
-    rt: &(impl Files + AllocGlobal),
-    state: &mut [u32; 327],
-    xf: &mut [u32; 4184],
-) -> Result<Pass, Verdict> {
-    match input::open_other(rt) {
-        Some(mut other) => load::load(rt.alloc(), &mut other, state, xf),
-        None => Err(Verdict::Unreadable),
-    }
-}
-
-// Records it with the registers and XF words of another recording, which is read to its end.
-fn record_by_other(rt: &(impl Files + AllocGlobal + Input + Print)) -> Verdict {
-    let mut state = [0u32; 327];
-    let mut xf = [0u32; 4184];
-    duckhammock::duckhammock_fresh(&mut state);
-    match load_other(rt, &mut state, &mut xf) {
-        Ok(_) => record(rt, &state, &xf),
-        Err(verdict) => verdict,
-    }
+// Records it with the registers and XF words of another recording, which is read to its end and closed before.
+fn record_by_other(rt: &(impl Files + AllocGlobal + Input + Print)) -> Result<(), Failure> {
+    let mut other = input::open_other(rt).ok_or(Failure::Unreadable)?;
+    let start = Start::read(rt.alloc(), &mut other)?;
+    drop(other);
+    record(rt, &start)
 }
 
 // Writes the bytes behind the head of a recording, which were counted, where they are as many as it tells.
@@ -126,52 +92,35 @@ fn write_rest<I: Read + Seek>(
     rt: &impl Print,
     again: &mut Again<I>,
     told: u32,
-    rest: Pass,
-) -> Verdict {
-    match load::load_rest(told, rest) {
-        Ok(stream) => pass::copy(rt, again, &[], stream),
-        Err(verdict) => verdict,
-    }
-}
-
-// Writes what is left of standard input behind the head of a recording, where it is as much as the head tells.
-fn write_behind_head(rt: &(impl Files + AllocGlobal + Input + Print), told: u32) -> Verdict {
-    if let Some(mut again) = input::open_stdin(rt) {
-        let rest = pass::count(&mut rt.reader(), told as usize);
-        return write_rest(rt, &mut again, told, rest);
-    }
-    let (mut again, rest) = input::hold(rt.alloc(), &mut rt.reader(), told as usize + 1);
-    write_rest(rt, &mut again, told, rest)
+    rest: usize,
+) -> Result<(), Failure> {
+    start::check_rest(told, rest)?;
+    pass::copy(rt, again, &[], rest)
 }
 
 // Writes the stream of the recording on standard input.
-fn write_stream(rt: &(impl Files + AllocGlobal + Input + Print)) -> Verdict {
-    let mut state = [0u32; 327];
-    let mut xf = [0u32; 4184];
-    match load::load_head(rt.alloc(), &mut rt.reader(), &mut state, &mut xf) {
-        Ok(told) => write_behind_head(rt, told),
-        Err(verdict) => verdict,
+fn write_stream(rt: &(impl Files + AllocGlobal + Input + Print)) -> Result<(), Failure> {
+    let (_, told) = Start::read_head(rt.alloc(), &mut rt.reader())?;
+    if let Some(mut again) = input::open_stdin(rt) {
+        let rest = pass::count(&mut rt.reader(), told as usize)?;
+        return write_rest(rt, &mut again, told, rest);
+    }
+    let (mut again, rest) = input::hold(rt.alloc(), &mut rt.reader(), told as usize + 1);
+    write_rest(rt, &mut again, told, rest?)
+}
+
+fn run(rt: &(impl Files + Env + AllocGlobal + Input + Print)) -> Result<(), Failure> {
+    match Task::read(rt)? {
+        Task::RecordFresh => record(rt, &Start::fresh()),
+        Task::RecordByOther => record_by_other(rt),
+        Task::WriteStream => write_stream(rt),
     }
 }
 
-// The first letter of the first argument, 0 where there is none.
-fn letter(rt: &impl Env) -> u8 {
-    let mut word = [0u8; 16];
-    let _ = rt.arg(1, &mut word);
-    word[0]
-}
-
-// Does what the letter says.
-fn act(rt: &(impl Files + Env + AllocGlobal + Input + Print)) -> Verdict {
-    match letter(rt) {
-        0 => record_fresh(rt),
-        b'r' => record_by_other(rt),
-        b's' => write_stream(rt),
-        _ => Verdict::Unknown,
-    }
-}
-
-// Does it, and tells how it ended.
+// Does it, and tells how it ended. Where that cannot be written, there is no place left to tell it.
 fn main(rt: HostRuntime) {
-    verdict::tell(&rt, act(&rt));
+    let _ = match run(&rt) {
+        Ok(()) => eprintln!(rt; "end: written"),
+        Err(failure) => eprintln!(rt; "end: {failure}"),
+    };
 }

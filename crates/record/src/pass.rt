@@ -1,125 +1,67 @@
 // Passes over an input from where it stands, in pieces: its bytes are counted, or copied to standard output.
-use crate::verdict::Verdict;
+use crate::failure::Failure;
 use std::io;
 use std::io::{ErrorKind, Read, Seek, SeekFrom, Write};
 
 // How long a piece is at most.
 const PIECE_LENGTH: usize = 4096;
 
-// The bytes met so far; whether it goes on; whether a read failed, and why the output takes no more.
-#[derive(Clone, Copy)]
-pub struct Pass {
-    pub count: usize,
-    goes_on: bool,
-    pub is_failed: bool,
-    closed: Option<Verdict>,
-}
-
-// An input for the second pass, and where the first began in it; none where it has no places to go back to.
+// An input for the second pass, and where the first began in it; none where it has no places to go back to, as a pipe.
 #[derive(Drop)]
 pub struct Again<I> {
     pub input: I,
     start: Option<u64>,
 }
 
-// Where an input stands; none where it has no places to go back to, as a pipe.
-fn place(input: &mut impl Seek) -> Option<u64> {
-    input.seek(SeekFrom::Current(0)).ok()
-}
-
 impl<I: Seek> Again<I> {
     // An input that stands where the first pass begins.
     pub fn new(mut input: I) -> Again<I> {
-        let start = place(&mut input);
+        let start = input.seek(SeekFrom::Current(0)).ok();
         Again { input, start }
     }
-}
 
-// Goes back there; false where there is no such place.
-pub fn go_back<I: Seek>(again: &mut Again<I>) -> bool {
-    let Some(start) = again.start else {
-        return false;
-    };
-    match again.input.seek(SeekFrom::Start(start)) {
-        Ok(place) => place == start,
-        Err(_) => false,
-    }
-}
-
-// The pass over bytes that are held in memory: they were met when they were read.
-pub fn of_held(count: usize, is_failed: bool) -> Pass {
-    Pass {
-        count,
-        goes_on: false,
-        is_failed,
-        closed: None,
+    // Goes back there, or fails where there is no such place.
+    pub fn go_back(&mut self) -> Result<(), Failure> {
+        let start = self.start.ok_or(Failure::ReadOnce)?;
+        match self.input.seek(SeekFrom::Start(start)) {
+            Ok(place) if place == start => Ok(()),
+            _ => Err(Failure::ReadOnce),
+        }
     }
 }
 
 // Why an output takes no more: its reader has closed it, or it cannot be written.
-fn unwritten(error: &io::Error) -> Verdict {
+// No From: an error of a read is another failure, Unreadable.
+fn unwritten(error: io::Error) -> Failure {
     if error.kind() == ErrorKind::BrokenPipe {
-        Verdict::Closed
+        Failure::Closed
     } else {
-        Verdict::Unwritable
+        Failure::Unwritable
     }
 }
 
-// Reads a piece and counts it, and writes it to an output, in a count to one that keeps nothing. No byte, or a read that fails, ends the
-// input.
-fn take_piece(input: &mut impl Read, output: &mut impl Write, pass: Pass) -> Pass {
+// Goes on to the end of the input, or until there were more bytes than `most`, writes them to an output, and counts them. No byte ends the
+// input. Nothing says that it does end, so the loop counts its turns, up to a number that no input uses up.
+fn go_over(input: &mut impl Read, output: &mut impl Write, most: usize) -> Result<usize, Failure> {
     let mut piece = [0u8; PIECE_LENGTH];
-    let (n, is_failed) = match input.read(&mut piece) {
-        Ok(n) => (n, false),
-        Err(_) => (0, true),
-    };
-    let closed = match output.write_all(&piece[..n]) {
-        Ok(()) => None,
-        Err(error) => Some(unwritten(&error)),
-    };
-    Pass {
-        count: pass.count.wrapping_add(n),
-        goes_on: (n > 0) & closed.is_none(),
-        is_failed,
-        closed,
-    }
-}
-
-// Goes on to the end of the input, or until there were more bytes than `most`. Nothing says that an input ends, so the loop counts its
-// turns, up to a number that no input uses up.
-fn go_over(input: &mut impl Read, output: &mut impl Write, most: usize) -> Pass {
-    let mut pass = Pass {
-        count: 0,
-        goes_on: true,
-        is_failed: false,
-        closed: None,
-    };
+    let mut count: usize = 0;
     for _ in 0..u64::MAX {
-        if !pass.goes_on || pass.count > most {
+        if count > most {
             break;
         }
-        pass = take_piece(input, output, pass);
+        let n = input.read(&mut piece).map_err(|_| Failure::Unreadable)?;
+        if n == 0 {
+            break;
+        }
+        output.write_all(&piece[..n]).map_err(unwritten)?;
+        count = count.wrapping_add(n);
     }
-    pass
+    Ok(count)
 }
 
 // Counts the bytes that are left of an input; where there are more than `most`, some of them.
-pub fn count(input: &mut impl Read, most: usize) -> Pass {
+pub fn count(input: &mut impl Read, most: usize) -> Result<usize, Failure> {
     go_over(input, &mut io::sink(), most)
-}
-
-// How a copy ended of what was counted before.
-fn judge(first: Pass, second: Pass) -> Verdict {
-    if let Some(verdict) = second.closed {
-        return verdict;
-    }
-    if second.is_failed {
-        return Verdict::Unreadable;
-    }
-    if second.count != first.count {
-        return Verdict::Changed;
-    }
-    Verdict::Written
 }
 
 // Writes a head and, behind it, the bytes that were counted. Where there are more of them now, more are written, so that a recording which
@@ -128,14 +70,15 @@ pub fn copy<I: Read + Seek>(
     rt: &impl Print,
     again: &mut Again<I>,
     head: &[u8],
-    first: Pass,
-) -> Verdict {
-    if !go_back(again) {
-        return Verdict::ReadOnce;
-    }
+    count: usize,
+) -> Result<(), Failure> {
+    again.go_back()?;
     let mut output = io::writer(rt);
-    if let Err(error) = output.write_all(head) {
-        return unwritten(&error);
+    output.write_all(head).map_err(unwritten)?;
+    let copied = go_over(&mut again.input, &mut output, count)?;
+    if copied == count {
+        Ok(())
+    } else {
+        Err(Failure::Changed)
     }
-    judge(first, go_over(&mut again.input, &mut output, first.count))
 }

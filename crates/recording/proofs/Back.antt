@@ -7,7 +7,7 @@ use native.Mathlib.Omega.{arith}
 use lib.ListN.{length, get_or, drop, length-append}
 use lib.Seq.{drop_at}
 use borrow.Author.Tests.{eq-eqb, lt-ltb, le-ltb, le-leb}
-use Rattle.laws.proofs.Cases.{order}
+use Rattle.std.proofs.lemmas.Bool.{cases_lt}
 use Rattle.octets.specs.BigEndian.{big_endian, bytes_of, WordsFit, words_at, word_bytes}
 use Rattle.octets.proofs.Written.{length_bytes, read_back}
 use Rattle.octets.proofs.Words.{length_words}
@@ -182,7 +182,8 @@ module _ (limit : ℕ) (r : Recording) (small : limit < 2 ^ 32) (w : Recordable 
   sound_stride k a h =
       let i = k - strides_from in
       let e : k ≡ cp_from + stride_place i = omega arith in
-      of_register k _ (2 ^ 8) (of_stride limit k (file_number file k) a h) (ap (file_number file) e ∙ cp_number (stride_place i) (omega arith))
+      of_register k _ (2 ^ 8) (of_stride limit k (file_number file k) a h)
+      (ap (file_number file) e ∙ cp_number (stride_place i) (omega arith))
       (bits.strides i (omega arith))
 
   sound_last : (k : ℕ) → k ≡ stream_count_at → number_fault limit k (file_number file k) ≡ 0
@@ -203,8 +204,8 @@ module _ (limit : ℕ) (r : Recording) (small : limit < 2 ^ 32) (w : Recordable 
       (λ g. ⊎_elim (λ i. let e : k ≡ xf_count_at = omega (arith, g, i) in
       of_count k xf_count_at xf_count (of_xf_count limit k v e) e third_count)
       (λ i. ⊎_elim (λ j. of_xf limit k v i j) (λ j. sound_last k (omega (arith, h, j)))
-      (order k stream_count_at)) (order k xf_from)) (order k xf_count_at)) (order k strides_from)) (order k bases_from)) (order k cp_from))
-      (order k cp_count_at)) (order k bp_from)
+      (cases_lt k stream_count_at)) (cases_lt k xf_from)) (cases_lt k xf_count_at)) (cases_lt k strides_from)) (cases_lt k bases_from)) (cases_lt k cp_from))
+      (cases_lt k cp_count_at)) (cases_lt k bp_from)
 
   file_length : length file ≡ stream_at + length r.stream
   file_length =

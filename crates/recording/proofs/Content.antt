@@ -8,7 +8,7 @@ use lib.Dec.{ltb, leb, eqb, lit<}
 use lib.ListN.{length, get_or, take, drop, length-take, length-drop}
 use lib.Seq.{get_or-take, get_or-drop}
 use borrow.Author.Tests.{eq-eqb, eqb-true, le-leb, le-ltb, ltb-true, leb-true}
-use Rattle.laws.proofs.Cases.{and_left, and_right}
+use Rattle.std.proofs.lemmas.Bool.{and_parts}
 use Rattle.laws.proofs.Filled.{length_up_to, get_d_up_to}
 use Rattle.octets.specs.BigEndian.{Octets, big_endian, WordsFit, words_at}
 use Rattle.octets.proofs.Number.{big_lt}
@@ -56,10 +56,10 @@ part_at l from k h = get_or-take 16 (drop from l) k 0 h ∙ get_or-drop from l k
 pub narrow : (cp bp : List ℕ) → registers_fit cp bp Closed ≡ true → Narrow cp bp
 unfolding registers_fit bp_fits cp_fits
 narrow cp bp e =
-    let f = and_left (bp_fits bp) _ e in
-    let c = and_left (cp_fits cp) _ (and_right (bp_fits bp) _ e) in
-    let b = and_left (all_below (2 ^ 26) (bases_of cp)) _ c in
-    let s = and_right (all_below (2 ^ 26) (bases_of cp)) _ c in
+    let f = (and_parts (bp_fits bp) _ e).0 in
+    let c = (and_parts (cp_fits cp) _ (and_parts (bp_fits bp) _ e).1).0 in
+    let b = (and_parts (all_below (2 ^ 26) (bases_of cp)) _ c).0 in
+    let s = (and_parts (all_below (2 ^ 26) (bases_of cp)) _ c).1 in
     record {
       bp_bits = below_at (2 ^ 24) bp (lit< tt) f;
       bases = λ k h. rw (sym (part_at cp (base_place 0) k h)) (below_at (2 ^ 26) (bases_of cp) (lit< tt) b k);

@@ -8,7 +8,7 @@ use native.Mathlib.Omega.{arith}
 use lib.Dec.{eqb}
 use lib.ListN.{length}
 use borrow.Author.Tests.{eqb-true, lt-ltb, le-ltb}
-use Rattle.laws.proofs.Cases.{tested, order}
+use Rattle.std.proofs.lemmas.Bool.{cases_Bool, cases_lt}
 use Rattle.refusal.specs.Number.{number}
 use Rattle.refusal.specs.declared.Reason.{Reason}
 use Rattle.refusal.proofs.Positive.{number_some, not_zero}
@@ -35,8 +35,8 @@ module _ (limit : ℕ) (file : List ℕ) where
     unfolding first_fault first_place
     found_next h w e = rw (left h, le-ltb (length file) (4 * k + 4) w, e, add-one k)
 
-    pub found_here : k < number_count → 4 * k + 4 ≤ length file → (reason : Reason) → number reason ≡ number_fault limit k (file_number file k)
-        → found_from k ≡ number reason ∷ 4 * k ∷ []
+    pub found_here : k < number_count → 4 * k + 4 ≤ length file → (reason : Reason)
+        → number reason ≡ number_fault limit k (file_number file k) → found_from k ≡ number reason ∷ 4 * k ∷ []
     unfolding first_fault first_place
     found_here h w reason e =
         rw (
@@ -66,7 +66,7 @@ module _ (limit : ℕ) (file : List ℕ) where
   place_none : (n k : ℕ) → first_fault limit file n k ≡ 0 → first_place limit file n k ≡ 4 * (k + n)
   unfolding first_fault first_place
   place_none zero k e = omega arith
-  place_none (suc n) k e = elim (order (length file) (4 * k + 4)) [
+  place_none (suc n) k e = elim (cases_lt (length file) (4 * k + 4)) [
     | inl h ↦ absurd (omega (arith, rw (lt-ltb (length file) (4 * k + 4) h) at e))
     | inr h ↦
         let f = or_zero (of k) (first_fault limit file n (suc k)) (rw (le-ltb (length file) (4 * k + 4) h) at e) in
@@ -77,11 +77,11 @@ module _ (limit : ℕ) (file : List ℕ) where
   place_some : (n k : ℕ) → (first_fault limit file n k ≡ 0 → ⊥) → first_place limit file n k < 4 * (k + n)
   unfolding first_fault first_place
   place_some zero k e = absurd (e refl)
-  place_some (suc n) k e = elim (order (length file) (4 * k + 4)) [
+  place_some (suc n) k e = elim (cases_lt (length file) (4 * k + 4)) [
     | inl h ↦ rw (lt-ltb (length file) (4 * k + 4) h) (omega (arith, h))
     | inr h ↦
         let t = le-ltb (length file) (4 * k + 4) h in
-        elim (tested (eqb (of k) 0)) [
+        elim (cases_Bool (eqb (of k) 0)) [
           | inl z ↦
               let q : of k ≡ 0 = eqb-true (of k) 0 z in
               let next = place_some n (suc k) (λ y. e (rw (t, q) y)) in
@@ -94,11 +94,11 @@ module _ (limit : ℕ) (file : List ℕ) where
   place_within : (n k : ℕ) → 4 * k ≤ length file → first_place limit file n k ≤ length file
   unfolding first_place
   place_within zero k h = h
-  place_within (suc n) k h = elim (order (length file) (4 * k + 4)) [
+  place_within (suc n) k h = elim (cases_lt (length file) (4 * k + 4)) [
     | inl l ↦ rw (lt-ltb (length file) (4 * k + 4) l) (omega arith)
     | inr l ↦
         let t = le-ltb (length file) (4 * k + 4) l in
-        elim (tested (eqb (of k) 0)) [
+        elim (cases_Bool (eqb (of k) 0)) [
           | inl z ↦ rw (t, z) (place_within n (suc k) (omega (arith, l)))
           | inr z ↦ rw (t, z) h
         ]

@@ -7,7 +7,7 @@ use native.Mathlib.Omega.{arith}
 use lib.ListN.{length, take}
 use lib.Seq.{get_or-take, length-take-le, take_all}
 use borrow.Author.Tests.{le-ltb}
-use Rattle.laws.proofs.Cases.{order}
+use Rattle.std.proofs.lemmas.Bool.{cases_lt}
 use Rattle.laws.proofs.Front.{up_to_ext}
 use Rattle.octets.specs.BigEndian.{big_endian, words_at}
 use Rattle.octets.proofs.Number.{agree}
@@ -51,10 +51,10 @@ module _ (file : List ℕ) where
       record {
         fault =
             ⊎_elim (λ h. ap (λ (l : List ℕ). first_fault limit l number_count 0) (short h))
-            (λ h. (long limit h number_count 0 (omega arith)).0) (order (length file) stream_at);
+            (λ h. (long limit h number_count 0 (omega arith)).0) (cases_lt (length file) stream_at);
         place =
             ⊎_elim (λ h. ap (λ (l : List ℕ). first_place limit l number_count 0) (short h))
-            (λ h. (long limit h number_count 0 (omega arith)).1) (order (length file) stream_at);
+            (λ h. (long limit h number_count 0 (omega arith)).1) (cases_lt (length file) stream_at);
         told = word_alone (4 * stream_count_at) (omega arith);
         registers =
             λ i. record {

@@ -6,7 +6,7 @@ use Prim.Native.Nat.{ℕ, zero, suc, ◌+◌, ◌*◌, ◌^◌, ◌<◌, ◌≤�
 use native.Mathlib.Omega.{arith}
 use lib.ListN.{length}
 use borrow.Author.Tests.{ne_eqb, le-leb, lt-leb, lt-ltb, le-ltb}
-use Rattle.laws.proofs.Cases.{order}
+use Rattle.std.proofs.lemmas.Bool.{cases_lt}
 use Rattle.refusal.proofs.First.{or_some}
 use Rattle.recording.specs.Format.{Recording, file_bytes, stream_count_at, number_count, file_number}
 use Rattle.recording.specs.Faults.{number_fault, first_fault, first_place, head_fault, head_place, file_fault}
@@ -36,14 +36,14 @@ module _ (a b : ℕ) (file : List ℕ) (raised : a ≤ b) where
       ⊎_elim (λ l. inl (before k v l))
       (λ l. ⊎_elim (λ o. inr (of_stream_count a k v l ∙ rw (lt-leb v a o), omega (arith, h, l)))
       (λ o. inl (rw (of_stream_count a k v l, of_stream_count b k v l, le-leb v a o, le-leb v b (omega (arith, o, raised)))))
-      (order a v)) (order k stream_count_at)
+      (cases_lt a v)) (cases_lt k stream_count_at)
 
   found : (n k : ℕ) → k + n ≤ number_count → Same n k ⊎ Long n k
   unfolding first_fault first_place
   found zero k h = inl (refl, refl)
   found (suc n) k h =
       let v = file_number file k in
-      elim (order (length file) (4 * k + 4)) [
+      elim (cases_lt (length file) (4 * k + 4)) [
         | inl l ↦ inl (rw (lt-ltb (length file) (4 * k + 4) l), rw (lt-ltb (length file) (4 * k + 4) l))
         | inr l ↦
             let w = le-ltb (length file) (4 * k + 4) l in
@@ -54,7 +54,7 @@ module _ (a b : ℕ) (file : List ℕ) (raised : a ≤ b) where
                     | inl s ↦ inl (rw (w, e, s.0), rw (w, e, s.1))
                     | inr s ↦
                         let f = number_fault b k v in
-                        elim (order f 1) [
+                        elim (cases_lt f 1) [
                           | inl z ↦ let q : f ≡ 0 = omega (arith, z) in inr (rw (w, e, q) s.0, rw (w, e, q) s.1)
                           | inr z ↦
                               let q = ne_eqb f 0 (λ y. omega (arith, y, z)) in

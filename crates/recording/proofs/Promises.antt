@@ -8,7 +8,7 @@ use native.Mathlib.Omega.{arith}
 use lib.Dec.{eqb, ltb}
 use lib.ListN.{length, take}
 use borrow.Author.Tests.{lt-ltb, le-ltb}
-use Rattle.laws.proofs.Cases.{order}
+use Rattle.std.proofs.lemmas.Bool.{cases_lt}
 use Rattle.refusal.specs.Number.{or_else}
 use Rattle.command.specs.Look.{xf_count}
 use Rattle.recording.specs.Format.{Recording, file_bytes, stream_count_at, stream_at, file_number, content_of}
@@ -42,7 +42,7 @@ in_parts limit file xf =
 rooms : (c room n : ℕ) → stream_at ≤ n
     → or_else c (cond (ltb room n) 16 0) ≡ or_else (or_else c (cond (ltb room stream_at) 16 0)) (cond (ltb room n) 16 0)
 rooms (suc c) room n h = refl
-rooms zero room n h = elim (order room stream_at) [
+rooms zero room n h = elim (cases_lt room stream_at) [
   | inl l ↦ rw (lt-ltb room stream_at l, lt-ltb room n (omega arith))
   | inr l ↦ rw (le-ltb room stream_at l)
 ]

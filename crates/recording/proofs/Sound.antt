@@ -137,4 +137,5 @@ module _ (file : List ℕ) (o : Octets file) where
       pieces (section (words_at file (4 * bp_from) bp_count)) (section (words_at file (4 * cp_from) cp_count))
       (section (words_at file (4 * xf_from) xf_count)) (bytes_of 4 (length (drop stream_at file)))
       (section_back 0 bp_count bp (omega arith)) (section_back cp_count_at cp_count cp (omega arith))
-      (section_back xf_count_at xf_count xf (omega arith)) (counted stream_count_at (length (drop stream_at file)) (omega arith) n.stream_told)
+      (section_back xf_count_at xf_count xf (omega arith))
+      (counted stream_count_at (length (drop stream_at file)) (omega arith) n.stream_told)

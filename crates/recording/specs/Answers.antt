@@ -1,14 +1,13 @@
 -- The refusals of the calls on recordings, in their order, and the numbers of what a search and a test answer.
-use Rattle.std.specs.Prelude.{cond, List, [], ◌∷◌, ℕ, ◌+◌, leb, ltb, eqb}
+use Rattle.std.specs.Prelude.{cond, List, [], ◌∷◌, ℕ, ◌+◌, leb, ltb, eqb, Option, None, Some, Result}
 use Rattle.refusal.specs.Number.{number, or_else}
+use Rattle.refusal.specs.Outcome.{outcome}
+use Rattle.refusal.specs.declared.Reason.{Reason}
 use Rattle.command.specs.declared.Draw.TheVariants.{Closed}
 use Rattle.command.specs.Look.{xf_count}
 use Rattle.machine.specs.declared.Registers.{Registers}
 use Rattle.machine.specs.Gate.{registers_fit}
-use Rattle.recording.specs.declared.Verdict.{Verdict}
-use Rattle.recording.specs.declared.Verdict.TheVariants as verdict
 use Rattle.recording.specs.declared.Fault.{Fault}
-use Rattle.recording.specs.declared.Fault.TheVariants as fault
 use Rattle.recording.specs.Format.{stream_at, content_of}
 use Rattle.recording.specs.Faults.{head_fault, file_fault}
 
@@ -16,14 +15,13 @@ use Rattle.recording.specs.Faults.{head_fault, file_fault}
 
 -- of a test: 0, or the refusal's
 
-abbrev pub meaning_of_verdict : Verdict → ℕ
-meaning_of_verdict verdict.Sound = 0
-meaning_of_verdict (verdict.Refused r) = number r
+abbrev pub meaning_of_verdict : Result (Unit {0}) Reason → ℕ
+meaning_of_verdict = outcome
 
 -- of a search: the refusal's and its place, or 0 and the place where the stream begins
-abbrev pub meaning_of_fault : Fault → List ℕ
-meaning_of_fault fault.None = 0 ∷ stream_at ∷ []
-meaning_of_fault (fault.At place r) = number r ∷ place ∷ []
+abbrev pub meaning_of_fault : Option Fault → List ℕ
+meaning_of_fault None = 0 ∷ stream_at ∷ []
+meaning_of_fault (Some fault) = number fault.reason ∷ fault.place ∷ []
 
 -- ---- reading
 

@@ -48,11 +48,13 @@ number_put out v at n h q = words_lent out (n ∷ []) v at (omega arith) q ∙ a
 
 -- numbers behind their count
 pub section_put : (out counted v numbers : List ℕ) (at : ℕ) → at + 4 + 4 * length numbers ≤ length out
-    → counted ≡ over out at (bytes_of 4 (length numbers)) → v ≡ with_words numbers (take (length counted - (at + 4)) (drop (at + 4) counted))
+    → counted ≡ over out at (bytes_of 4 (length numbers))
+    → v ≡ with_words numbers (take (length counted - (at + 4)) (drop (at + 4) counted))
     → put_mid (at + 4) (length counted - (at + 4)) counted v ≡ over out at (section numbers)
 section_put out counted v numbers at h e q =
     let four : length (bytes_of 4 (length numbers)) ≡ 4 = length_bytes 4 (length numbers) in
-    let l : length counted ≡ length out = ap (λ (x : List ℕ). length x) e ∙ over_length out (bytes_of 4 (length numbers)) at (omega arith) in
+    let l : length counted ≡ length out =
+    ap (λ (x : List ℕ). length x) e ∙ over_length out (bytes_of 4 (length numbers)) at (omega arith) in
     words_lent counted numbers v (at + 4) (omega arith) q
     ∙ ap (λ (x : List ℕ). over x (at + 4) (word_bytes numbers)) e
     ∙ over_next out (bytes_of 4 (length numbers)) (word_bytes numbers) at (at + 4) (omega arith) (omega arith)

@@ -1,3 +1,4 @@
 pub mod Injective
 pub mod Positive
 pub mod First
+pub mod Outcome

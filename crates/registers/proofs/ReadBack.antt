@@ -9,7 +9,7 @@ use lib.Dec.{eqb}
 use lib.ListN.{get_or, set}
 use lib.Seq.{get_or-set_same, get_or-set_other}
 use borrow.Author.Tests.{eq-eqb, ne_eqb, eqb-true, eqb-false, le-ltb}
-use Rattle.laws.proofs.Cases.{tested}
+use Rattle.std.proofs.lemmas.Bool.{cases_Bool}
 use Rattle.fifo.specs.declared.Window.{Window}
 use Rattle.registers.specs.Registers.{words, from_words, word_at, is_high, half_of, with_half, value_of, with_register, stored}
 use Rattle.registers.specs.Promises.{StoredHalf, ReadsBack}
@@ -91,7 +91,7 @@ module _ (w : Window) (o p v : ℕ) (a : StoredHalf o) (b : StoredHalf p) (l : v
       let n : word_at p ≡ word_at o → ⊥ = eqb-false (word_at p) (word_at o) t in
       let q : eqb p o ≡ false = ne_eqb p o (λ s. n (ap (λ (x : ℕ). word_at x) s)) in
       rw (q, get_or-set_other (words w) (word_at o) (word_at p) new 0 n))
-      (tested (eqb (word_at p) (word_at o)))
+      (cases_Bool (eqb (word_at p) (word_at o)))
 
 pub read_back : ReadsBack
 unfolding value_of stored

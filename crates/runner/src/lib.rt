@@ -1,4 +1,5 @@
 // Running many units, on the state's words.
+// As C has it: an answer is a number, and what is told or left goes to arrays that are lent.
 #![tactic(auto)]
 
 ghost use Rattle.std.specs.Prelude.{◌≡◌, length};
@@ -11,12 +12,12 @@ ghost use Rattle.stepping.specs.Calls.{lent_of, Ends};
 
 use command::Draw;
 use fifo::Fifo;
-use machine::Gate;
 use refusal::Reason;
 use running::Ran;
 use words::{BP_PLACE, Front};
 
 // A run whose BP registers are lent where they stand among the words.
+// `stepping::take_words` is the same of a taking: each says its own call's promise, `Steps` or `Reports`, of the words.
 fn run_words(
     state: &mut [u32],
     fifo: Fifo,
@@ -57,12 +58,8 @@ fn gate_number(
     ensures { result ≡ gate_by fifo (cp_of state.now) (bp_of state.now) draw ring xf vertex }
 {
     let cp = words::cp(state);
-    let all = &state[..];
-    let gate = machine::pass(fifo, &cp, &all[BP_PLACE..], draw, ring, xf, vertex);
-    match gate {
-        Gate::Passed => 0,
-        Gate::Refused(reason) => encoding::refused(reason),
-    }
+    let bp = &state[BP_PLACE..];
+    encoding::answer_number(machine::pass(fifo, &cp, bp, draw, ring, xf, vertex))
 }
 
 // Takes units until the limit, waiting or a refusal. Its report: the units done, and the bytes lacking, 0 unless it waits.
@@ -78,27 +75,21 @@ pub fn run(
         (lent_of state.old xf.old vertex.old)
         result (lent_of state.new xf.new vertex.new) report.new }
 {
-    let front = words::read_front(state);
-    let Front::Held { fifo, draw } = front else {
-        *report = [0, 0];
-        return encoding::refused(Reason::InvalidState);
+    *report = [0, 0];
+    let Some(front) = words::read_front(state) else {
+        return u32::from(Reason::InvalidState);
     };
+    let Front { fifo, draw } = front;
     if limit == 0 {
-        *report = [0, 0];
         return gate_number(state, fifo, draw, ring.len(), xf.len(), vertex.len());
     }
     let mut cp = words::cp(state);
     let ran = run_words(state, fifo, &mut cp, draw, ring, xf, vertex, limit);
-    let stop = ran.stop;
-    let units = ran.units;
-    let told = [units, answers::stop_lacking(stop)];
-    *report = told;
-    let is_idle = units == 0;
+    *report = [ran.units, answers::stop_lacking(ran.stop)];
+    let is_idle = ran.units == 0;
     if is_idle {
-        return answers::stop_number(stop);
+        return answers::stop_number(ran.stop);
     }
-    let last = ran.fifo;
-    let left = ran.draw;
-    saving::save_before_bp(state, last, &cp, left);
-    answers::stop_number(stop)
+    saving::save_before_bp(state, ran.fifo, &cp, ran.draw);
+    answers::stop_number(ran.stop)
 }

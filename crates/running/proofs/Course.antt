@@ -15,7 +15,9 @@ use Rattle.fifo.specs.Window.{consume}
 use Rattle.cursor.specs.Cursor.{opened, closed}
 use Rattle.cursor.proofs.CursorLaws.{reads_pending}
 use Rattle.queue.proofs.Moves.{consume_none, consume_consume}
-use Rattle.unit.specs.declared.StepAnswer.{StepAnswer}
+use Rattle.command.specs.declared.Command.{Command}
+use Rattle.command.specs.declared.StepAnswer.{StepAnswer}
+use Rattle.command.specs.declared.StepAnswer.TheVariants.{Done, Waiting, Refused}
 use Rattle.machine.specs.State.{State}
 use Rattle.machine.specs.Gate.{gate_of}
 use Rattle.unit.specs.Answers.{meaning}
@@ -68,6 +70,12 @@ course_closed {ring} {s = s} g at fi =
     fi ∙ ap (closed s.fifo) at.cursor_is
     ∙ (reads_pending s.fifo ring (gate_passes s (length ring) g).ready).close_is at.consumed
 
+-- an answer that is not done is no unit
+pub not_unit : (a : StepAnswer) → ((c : Command) (m l : ℕ) → a ≡ Done c m l → ⊥) → NoUnit (meaning a)
+not_unit (Done d m l) other c k n e = other d m l refl
+not_unit (Waiting j) other c k n e = let z : ◌≡◌ {A = ℕ} 0 1 = cc in omega arith
+not_unit (Refused r) other c k n e = let z : ◌≡◌ {A = ℕ} 0 1 = cc in omega arith
+
 -- what is no unit ends a run where it stands
 ends_units : (found : Found) → NoUnit found → (h : State) (e : Ended) → (gone_on found h e).units ≡ []
 ends_units (unit c m n) out h e = absurd (out c m n refl)
@@ -97,7 +105,8 @@ module _ (ring : List ℕ) (o : Octets ring) where
       let g = passes_gate h (length ring) p in
       rw (runs_found ring h g, step_after ring h g, e)
 
-  other_step : (k : ℕ) (h : State) → Passes h (length ring) → steps ring (suc k) h ≡ gone_on (look_at ring h) h (steps ring k (step_of ring h))
+  other_step : (k : ℕ) (h : State) → Passes h (length ring)
+      → steps ring (suc k) h ≡ gone_on (look_at ring h) h (steps ring k (step_of ring h))
   unfolding steps
   other_step k h p = rw (runs_found ring h (passes_gate h (length ring) p))
 

@@ -9,7 +9,7 @@ use Rattle.bulk.specs.Size.{size_told}
 use Rattle.cursor.specs.declared.Cursor.{Cursor}
 use Rattle.cursor.specs.Cursor.{skipped}
 use Rattle.unit.specs.Cursor.{bytes_at, Takes}
-use Rattle.unit.specs.declared.StepAnswer.{StepAnswer}
+use Rattle.command.specs.declared.StepAnswer.{StepAnswer}
 
 -- units off the first bytes of a cursor, and all that they leave
 pub record TakesStretch (cursor : Cursor) (ring cp bp : List ℕ) (draw : Draw) (xf buffer : List ℕ) (most : ℕ)

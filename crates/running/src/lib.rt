@@ -9,10 +9,10 @@ ghost use Rattle.running.specs.Run.{run_of, Reports};
 
 use command::Draw;
 use fifo::Fifo;
-use machine::Gate;
 use refusal::Reason;
 
 // Why a run stopped: "at its limit, at waiting or at a refusal".
+// No Result: a limit and waiting are no errors.
 #[derive(Clone, Copy)]
 pub enum Stop {
     Limit,
@@ -21,6 +21,7 @@ pub enum Stop {
 }
 
 // What a run leaves of the fifo and the draw, how many units it took, and why it stopped.
+// Told beside every stop, a refusal too: a run keeps the units before and reports how many there were.
 #[derive(Clone, Copy)]
 pub struct Ran {
     pub fifo: Fifo,
@@ -30,6 +31,7 @@ pub struct Ran {
 }
 
 // A run of units: 1 to 5 once, then takings until the limit, waiting or a refusal. A limit above the most units counts as that.
+// The gate first, as in a look and a taking. All is lent apart: C has the BP registers among the words of its state.
 pub fn run(
     fifo: Fifo,
     cp: &mut [u32; 60],
@@ -44,26 +46,14 @@ pub fn run(
         (state_of fifo cp.old bp.old draw xf.old buffer.old))
         result cp.new bp.new xf.new buffer.new }
 {
-    let most = units::capped(limit);
-    let gate = machine::pass(fifo, cp, bp, draw, ring.len(), xf.len(), buffer.len());
-    match gate {
-        Gate::Refused(reason) => Ran {
+    let most = limit.min(units::RUN_LIMIT);
+    match machine::pass(fifo, cp, bp, draw, ring.len(), xf.len(), buffer.len()) {
+        Err(reason) => Ran {
             fifo,
             draw,
             units: 0,
             stop: Stop::Refused(reason),
         },
-        Gate::Passed => {
-            let course = units::take_units(fifo, ring, cp, bp, draw, xf, buffer, most);
-            let draw = course.draw;
-            let stop = course.stop;
-            let left = course.fifo;
-            Ran {
-                fifo: left,
-                draw,
-                units: course.units,
-                stop,
-            }
-        }
+        Ok(()) => units::take_units(fifo, ring, cp, bp, draw, xf, buffer, most),
     }
 }

@@ -7,6 +7,7 @@ use command::Draw;
 use cursor::Cursor;
 
 // What is left of the cursor and the draw, how many units were taken, and the bytes of a vertex of the draw, 0 where these are not known.
+// `size` is that of `bulk::take_straight`, which promises 0 there; its `Many` has a place in a slice where this has a cursor.
 #[derive(Clone, Copy)]
 pub struct Stretch {
     pub cursor: Cursor,
@@ -16,15 +17,11 @@ pub struct Stretch {
 }
 
 // How many bytes lie straight: those that are left, or those up to the ring's end.
+#[tactic(auto, unfolding(cursor::specs::Cursor::straight_by))]
 fn reach(cursor: Cursor) -> u32
     ensures { straight_by cursor result ≡ true }
 {
-    let room = fifo::minus(cursor.size, cursor.at);
-    if cursor.left < room {
-        cursor.left
-    } else {
-        room
-    }
+    cursor.left.min(cursor.size.saturating_sub(cursor.at))
 }
 
 // Takes units of the straight stretch, at most so many: it may stop before any of them.
@@ -55,10 +52,9 @@ pub(crate) fn take_stretch(
         };
     }
     let many = bulk::take_straight(&ring[at..end], cp, bp, xf, buffer, draw, most);
-    let left = many.draw;
     Stretch {
         cursor: cursor::skip(cursor, many.at as u32),
-        draw: left,
+        draw: many.draw,
         units: many.units,
         size: many.size,
     }

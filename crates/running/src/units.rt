@@ -1,39 +1,24 @@
 // The units of a run, until the limit, waiting or a refusal.
-ghost use Rattle.std.specs.Prelude.{◌≡◌, ◌≤◌, min, length};
+ghost use Rattle.std.specs.Prelude.{◌≡◌, ◌≤◌, length};
 ghost use Rattle.command.specs.Look.{largest_vertex};
 ghost use Rattle.machine.specs.Gate.{gate_by};
 ghost use Rattle.unit.specs.Cursor.{seen, Takes};
 ghost use Rattle.unit.specs.Answers.{meaning};
 ghost use Rattle.machine.specs.State.{state_of};
 ghost use Rattle.running.specs.Stretch.{SizeKnown, TakesVertex};
-ghost use Rattle.running.specs.Run.{run_limit, stop_of, meaning_of_stop, Arrives};
+ghost use Rattle.running.specs.Run.{stop_of, meaning_of_stop, Arrives};
 
-use crate::{Stop, stretch};
-use command::{Command, Draw, LARGEST_VERTEX};
+use crate::{Ran, Stop, stretch};
+use command::{Command, Draw, LARGEST_VERTEX, StepAnswer};
 use cursor::Cursor;
 use fifo::Fifo;
-use unit::{Moved, StepAnswer};
+use unit::Moved;
 
 // The most units of a run.
 pub const RUN_LIMIT: u32 = 1048575;
 
-// What a run leaves of the fifo and the draw, the units that it took, and why it stopped.
-#[derive(Clone, Copy)]
-pub struct Course {
-    pub fifo: Fifo,
-    pub draw: Draw,
-    pub units: u32,
-    pub stop: Stop,
-}
-
-// More than the most units counts as that.
-pub fn capped(limit: u32) -> u32
-    ensures { result ≡ min limit run_limit }
-{
-    if limit < RUN_LIMIT { limit } else { RUN_LIMIT }
-}
-
 // Why a run stops at an answer.
+// No From of every answer: a unit done stops no run, and the let-else of `take_units` has left that case.
 fn stop_for(answer: StepAnswer) -> Stop
     ensures { meaning_of_stop result ≡ stop_of (meaning answer) }
 {
@@ -81,13 +66,10 @@ fn take_next(
         cursor ring.now cp.old bp.old draw xf.old buffer.old
         result.answer result.cursor result.draw cp.new bp.new xf.new buffer.new }
 {
-    let there = cursor.left;
-    let Draw::Open { .. } = draw else {
-        return unit::take_at(cursor, ring, cp, bp, draw, xf, buffer);
-    };
     if size == 0 {
         return unit::take_at(cursor, ring, cp, bp, draw, xf, buffer);
     }
+    let there = cursor.left;
     if size <= there {
         return take_vertex(cursor, ring, draw, buffer, size);
     }
@@ -101,6 +83,7 @@ fn take_next(
 // Takes units off the queue of a state that has passed 1 to 5:
 // "A run stops at its limit, at waiting or at a refusal, the limit tested first".
 // Before each unit those that lie straight in the ring are taken in one call.
+// A loop, not a `for`: a turn takes all units that lie straight and one more, so no index is counted.
 pub(crate) fn take_units(
     fifo: Fifo,
     ring: &[u8],
@@ -110,7 +93,7 @@ pub(crate) fn take_units(
     xf: &mut [u32],
     buffer: &mut [u8],
     limit: u32,
-) -> Course
+) -> Ran
     requires { gate_by fifo cp.old bp.old first (length ring.now) (length xf.old) (length buffer.old) ≡ 0 }
     ensures { Arrives ring.now limit
         (state_of fifo cp.old bp.old first xf.old buffer.old)
@@ -119,28 +102,27 @@ pub(crate) fn take_units(
 {
     let mut cursor = cursor::open(fifo);
     let mut draw = first;
-    let mut units: u32 = 0;
+    let mut units = 0;
     loop {
         let ahead = stretch::take_stretch(cursor, ring, cp, bp, draw, xf, buffer, limit - units);
-        let next = ahead.cursor;
-        let open = ahead.draw;
+        cursor = ahead.cursor;
+        draw = ahead.draw;
         units += ahead.units;
         if limit <= units {
-            return Course {
-                fifo: cursor::close(fifo, next),
-                draw: open,
+            return Ran {
+                fifo: cursor::close(fifo, cursor),
+                draw,
                 units,
                 stop: Stop::Limit,
             };
         }
-        let moved = take_next(next, ring, cp, bp, open, xf, buffer, ahead.size);
-        let answer = moved.answer;
-        let StepAnswer::Done { .. } = answer else {
-            return Course {
-                fifo: cursor::close(fifo, next),
-                draw: open,
+        let moved = take_next(cursor, ring, cp, bp, draw, xf, buffer, ahead.size);
+        let StepAnswer::Done { .. } = moved.answer else {
+            return Ran {
+                fifo: cursor::close(fifo, cursor),
+                draw,
                 units,
-                stop: stop_for(answer),
+                stop: stop_for(moved.answer),
             };
         };
         units += 1;

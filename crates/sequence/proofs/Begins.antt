@@ -9,6 +9,6 @@ use Rattle.sequence.specs.Promise.{Start}
 use Rattle.sequence.specs.Start.{first_world}
 
 pub first_start : Start first_world
-unfolding first_world fresh_machine gate_by state_fits registers_fit control_fits cp_fits bp_fits draw_fits all_below ready_by valid_by size_limit
-    count_of pending up_to
+unfolding first_world fresh_machine gate_by state_fits registers_fit control_fits cp_fits bp_fits draw_fits all_below
+    ready_by valid_by size_limit count_of pending up_to
 first_start = record { passes = refl; empty = refl; closed = refl; size = refl; unmasked = refl }

@@ -6,7 +6,7 @@ use Prim.Native.Nat.{ℕ, ◌+◌, ◌^◌, ◌<◌}
 use native.Mathlib.Omega.{arith}
 use lib.Dec.{lit<}
 use lib.ListN.{length, length-append}
-use Rattle.laws.proofs.Cases.{cond_both}
+use Rattle.std.proofs.lemmas.Bool.{cond_both}
 use Rattle.writer.specs.Write.{command_bytes}
 use Rattle.fifo.specs.declared.Fifo.{Fifo}
 use Rattle.registers.specs.Registers.{stored, writable, written}
@@ -34,7 +34,7 @@ Moves w v later left units = Advance v.ring w.state v.state later left units
 -- a clear changes nothing
 clear_kept : (f : Fifo) (value : ℕ) → written f 4 value ≡ f
 unfolding written stored
-clear_kept f value = cond_both (λ (g : Fifo). g ≡ f) (writable 4) (λ _. refl) (λ _. refl)
+clear_kept f value = cond_both (writable 4) _ _ (λ (g : Fifo). g ≡ f) (λ _. refl) (λ _. refl)
 
 -- one call
 call_moves : (w : World) (c : Call) (later : List ℕ) (left : List (List ℕ)) → Listed c → Ahead w.ring w.state (fed w c ++ later) left

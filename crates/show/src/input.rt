@@ -1,119 +1,88 @@
-// The first bytes of the input: by four of them a recording is told from a raw stream, and a recording's head is read whole.
-ghost use Rattle.std.specs.Prelude.{IfOk, ◌≤◌, length};
+// The input: its first bytes, by four of which a recording is told from a raw stream, and the pieces behind them.
+ghost use Rattle.std.specs.Prelude.{◌≤◌, length};
 
-use std::io;
+use recording::{FIRST_BYTES, HEAD_LENGTH};
 use std::io::Read;
 
-// How many bytes are at the front of a buffer; whether the input has ended, and whether that was a read that failed.
-#[derive(Clone, Copy)]
-pub struct Got {
-    pub count: usize,
-    pub has_ended: bool,
-    pub is_failed: bool,
+// How long a piece is at most.
+pub const PIECE_LENGTH: usize = 4096;
+
+// Why an input gives no byte more.
+#[derive(Clone, Copy, PartialEq, Eq)]
+pub enum End {
+    Reached,
+    Failed,
 }
 
-// Whether the first `count` bytes, at most four of them, are those of a recording: 256, the count of its BP registers.
-fn agrees(head: &[u8; 18016], count: usize) -> bool {
-    ((count < 1) | (head[0] == 0))
-        & ((count < 2) | (head[1] == 0))
-        & ((count < 3) | (head[2] == 1))
-        & ((count < 4) | (head[3] == 0))
+// An input, which is not read again once it has ended.
+#[derive(Drop)]
+pub struct Input<R> {
+    reader: R,
+    end: Option<End>,
 }
 
-// Whether the first bytes are those of a recording. No raw stream gets past its third byte with them, since 01 is no opcode.
-pub fn is_recording(head: &[u8; 18016], count: usize) -> bool {
-    (count >= 4) & agrees(head, count)
+// Whether the first bytes of an input are those of a recording.
+pub fn is_recording(first: &[u8]) -> bool {
+    first.starts_with(&FIRST_BYTES)
 }
 
-// Reads once, behind the bytes that are there and no further than `end`.
-fn read_once(input: &mut impl Read, buffer: &mut [u8], at: usize, end: usize) -> Got {
-    if end > buffer.len() || at > end {
-        return Got {
-            count: at,
-            has_ended: true,
-            is_failed: false,
-        };
+impl<R: Read> Input<R> {
+    pub fn new(reader: R) -> Input<R> {
+        Input { reader, end: None }
     }
-    let (more, is_failed) = match input.read(&mut buffer[at..end]) {
-        Ok(more) => (more, false),
-        Err(_) => (0, true),
-    };
-    Got {
-        count: at.wrapping_add(more),
-        has_ended: more == 0,
-        is_failed,
+
+    pub fn has_failed(&self) -> bool {
+        self.end == Some(End::Failed)
     }
-}
 
-// Reads a piece once more where the bytes that are there leave open which of the two it is.
-fn read_on(input: &mut impl Read, head: &mut [u8; 18016], got: Got) -> Got {
-    if got.has_ended | (got.count >= 4) | !agrees(head, got.count) {
-        return got;
+    pub fn has_ended(&self) -> bool {
+        self.end.is_some()
     }
-    read_once(input, head, got.count, 4096)
-}
 
-// Reads until the two can be told apart, or the input ends. A read gives a byte at least, so that four are enough.
-pub fn begin(input: &mut impl Read, head: &mut [u8; 18016]) -> Got {
-    let got = Got {
-        count: 0,
-        has_ended: false,
-        is_failed: false,
-    };
-    let got = read_on(input, head, got);
-    let got = read_on(input, head, got);
-    let got = read_on(input, head, got);
-    read_on(input, head, got)
-}
-
-// The first bytes of a buffer.
-pub fn front(buffer: &[u8], count: usize) -> &[u8] {
-    let n = count.min(buffer.len());
-    &buffer[..n]
-}
-
-// Reads until a buffer is full or the input ends, and tells how many bytes there are.
-fn read_full(input: &mut impl Read, buffer: &mut [u8]) -> io::Result<usize>
-    ensures { IfOk result (λ n. n ≤ length buffer.new) }
-{
-    let mut count = 0;
-    for _ in 0..u64::MAX {
-        if count >= buffer.len() {
-            break;
+    // Reads once, and tells how many bytes there are. No byte, or a read that fails, ends the input.
+    pub fn read(&mut self, buffer: &mut [u8]) -> usize
+        ensures { result ≤ length buffer.new }
+    {
+        if self.has_ended() {
+            return 0;
         }
-        let more = input.read(&mut buffer[count..])?;
-        if more == 0 {
-            break;
+        match self.reader.read(buffer) {
+            Ok(0) => self.end = Some(End::Reached),
+            Ok(count) => return count,
+            Err(_) => self.end = Some(End::Failed),
         }
-        count += more;
+        0
     }
-    Ok(count)
-}
 
-// Reads until a buffer is full or the input ends, behind the bytes that are there.
-fn read_rest(input: &mut impl Read, buffer: &mut [u8], at: usize) -> io::Result<usize> {
-    if at > buffer.len() {
-        return Ok(at);
+    // Reads a piece, until its first bytes tell whether it is a recording, or the input ends. A read gives a byte at least, so that four
+    // are enough.
+    pub fn begin(&mut self, head: &mut [u8; HEAD_LENGTH]) -> usize
+        ensures { result ≤ length head.new }
+    {
+        let mut count = 0;
+        for _ in 0..FIRST_BYTES.len() {
+            if self.has_ended() || count >= FIRST_BYTES.len() {
+                break;
+            }
+            if !FIRST_BYTES.starts_with(&head[..count]) {
+                break;
+            }
+            count += self.read(&mut head[count..PIECE_LENGTH]);
+        }
+        count
     }
-    let more = read_full(input, &mut buffer[at..])?;
-    Ok(at.wrapping_add(more))
-}
 
-// Reads the rest of a head, which stays short where the input ends.
-pub fn fill(input: &mut impl Read, head: &mut [u8; 18016], got: Got) -> Got {
-    if got.has_ended {
-        return got;
-    }
-    match read_rest(input, head, got.count) {
-        Ok(count) => Got {
-            count,
-            has_ended: count < 18016,
-            is_failed: false,
-        },
-        Err(_) => Got {
-            count: got.count,
-            has_ended: true,
-            is_failed: true,
-        },
+    // Reads until a buffer is full or the input ends, and tells how many bytes there are.
+    pub fn fill(&mut self, buffer: &mut [u8]) -> usize
+        ensures { result ≤ length buffer.new }
+    {
+        let mut count = 0;
+        for _ in 0..buffer.len() {
+            if self.has_ended() || count >= buffer.len() {
+                break;
+            }
+            count += self.read(&mut buffer[count..]);
+        }
+        count
     }
 }

@@ -4,100 +4,82 @@
 // and else a raw stream, which starts from fresh registers.
 #![tactic(auto)]
 
+mod bench;
+mod bp;
+mod count;
+mod ending;
 mod input;
-mod lines;
 mod stream;
-mod summary;
 mod tally;
-mod text;
-mod units;
+mod unit_line;
 
-use input::Got;
-use std::io::Read;
+use bench::Bench;
+use ending::Ending;
+use input::Input;
+use recording::HEAD_LENGTH;
+use std::io;
+use std::io::{BufWriter, Read};
+use stream::Stream;
 
-// The fresh state with a window of 65,536 bytes from 0 on, an empty ring, and reading allowed in multi-buffer mode.
-fn start(state: &mut [u32; 327]) {
-    duckhammock::duckhammock_fresh(state);
-    duckhammock::duckhammock_write_register(state, 0x026, 1);
-    duckhammock::duckhammock_write_register(state, 0x002, 1);
+// Shows a stream to its end, of which a first piece is read.
+fn show_stream<R: Read>(
+    rt: &(impl AllocGlobal + Print),
+    input: &mut Input<R>,
+    first: &[u8],
+    bench: Bench,
+    told: Option<u32>,
+) -> io::Result<()> {
+    let out = BufWriter::new(rt.alloc(), io::writer(rt))?;
+    let mut stream = Stream::new(out, bench, told);
+    stream.read(first, input)?;
+    stream.finish(input.has_failed())
 }
 
-// Shows a raw stream, of which the first bytes are read.
-fn show_raw(rt: &impl Print, input: &mut impl Read, head: &[u8; 18016], got: Got) {
-    let mut state = [0u32; 327];
-    let mut ring = [0u8; 65536];
-    let mut xf = [0u32; 4184];
-    let mut vertex = [0u8; 129];
-    start(&mut state);
-    let fresh = state;
-    text::send_text(rt, b"start: fresh registers, no draw open");
-    let first = input::front(head, got.count);
-    let tally = stream::take_first(rt, &mut state, &mut ring, &mut xf, &mut vertex, first, got);
-    let tally = stream::read_all(
-        rt,
-        input,
-        &mut state,
-        &mut ring,
-        &mut xf,
-        &mut vertex,
-        tally,
-    );
-    let is_whole = summary::tell(rt, tally, &fresh, &state, &ring);
-    summary::tell_hint(rt, tally);
-    summary::tell_end(rt, tally, is_whole);
+// Shows a raw stream. That a first line cannot be written is ignored, here and below: it is the units' lines that end the reading.
+fn show_raw<R: Read>(
+    rt: &(impl AllocGlobal + Print),
+    input: &mut Input<R>,
+    first: &[u8],
+) -> io::Result<()> {
+    let _ = println!(rt; "start: fresh registers, no draw open");
+    show_stream(rt, input, first, Bench::fresh(), None)
 }
 
 // Shows a recording whose head is read; one that is bad shows no units.
-fn show_recording(rt: &impl Print, input: &mut impl Read, bytes: &[u8; 18016], got: Got) {
-    let mut state = [0u32; 327];
-    let mut ring = [0u8; 65536];
-    let mut xf = [0u32; 4184];
-    let mut vertex = [0u8; 129];
-    start(&mut state);
-    let fresh = state;
-    let head = input::front(bytes, got.count);
-    let mut told: u32 = 0;
-    let number = duckhammock::duckhammock_read_recording_head(&mut state, head, &mut xf, &mut told);
-    if number != 0 {
-        let place = duckhammock::duckhammock_find_recording_fault(head);
-        summary::tell_fault(rt, number, place as u64);
-        return;
+fn show_recording<R: Read>(
+    rt: &(impl AllocGlobal + Print),
+    input: &mut Input<R>,
+    head: &[u8],
+) -> io::Result<()> {
+    let mut bench = Bench::fresh();
+    match bench.load(head) {
+        Ok(told) => {
+            let length = count::bytes(u64::from(told));
+            let _ = println!(rt;
+                "start: the recording's registers, no draw open; stream of {length}"
+            );
+            show_stream(rt, input, &[], bench, Some(told))
+        }
+        Err(reason) => println!(rt; "{}", Ending::of_head(head, reason)),
     }
-    summary::tell_start(rt, told);
-    let tally = tally::fresh(told as u64);
-    let tally = stream::read_all(
-        rt,
-        input,
-        &mut state,
-        &mut ring,
-        &mut xf,
-        &mut vertex,
-        tally,
-    );
-    let is_whole = summary::tell(rt, tally, &fresh, &state, &ring);
-    let rest = tally::rest(tally);
-    let fault = duckhammock::duckhammock_check_recording_rest(told, rest);
-    summary::tell_file_end(rt, tally, is_whole, fault);
 }
 
 // The first bytes of the input say which of the two it is.
-fn show(rt: &impl Print, input: &mut impl Read) {
-    let mut head = [0u8; 18016];
-    let first = input::begin(input, &mut head);
-    if !input::is_recording(&head, first.count) {
-        show_raw(rt, input, &head, first);
-        return;
+fn show(rt: &(impl AllocGlobal + Print), reader: impl Read + Drop) -> io::Result<()> {
+    let mut head = [0u8; HEAD_LENGTH];
+    let mut input = Input::new(reader);
+    let count = input.begin(&mut head);
+    if !input::is_recording(&head[..count]) {
+        return show_raw(rt, &mut input, &head[..count]);
     }
-    let whole = input::fill(input, &mut head, first);
-    if whole.is_failed {
-        summary::tell_unreadable(rt);
-        return;
+    let length = count + input.fill(&mut head[count..]);
+    if input.has_failed() {
+        return println!(rt; "{}", Ending::Unreadable);
     }
-    show_recording(rt, input, &head, whole);
+    show_recording(rt, &mut input, &head[..length])
 }
 
-// Shows what is on standard input.
+// Shows what is on standard input. Where a line cannot be written, nothing more is read, and there is no place left to tell it.
 fn main(rt: HostRuntime) {
-    let mut stdin = rt.stdin();
-    show(&rt, &mut stdin);
+    let _ = show(&rt, rt.stdin());
 }

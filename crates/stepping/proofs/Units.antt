@@ -1,27 +1,25 @@
 -- What a look, a taking and a run promise: the state that the words say is handed on, and its words are stored where a unit was done.
 use mathlib.Core.Path.{◌≡◌, refl, sym, ap, ◌∙◌}
 use mathlib.Core.Bool.{false, cond}
-use mathlib.Core.Logic.{◌⊎◌, inl, inr, ⊎_elim}
+use mathlib.Core.Logic.{⊎_elim}
 use mathlib.Core.List.{List, [], ◌∷◌}
 use Prim.Native.Nat.{ℕ, zero, suc, min}
 use native.Mathlib.Nat.{min-eq_left}
 use native.Mathlib.Omega.{arith}
 use lib.Dec.{eqb}
 use lib.ListN.{length}
-use denote.Enum.Declared.{tag_of}
 use borrow.Author.Tests.{ne_eqb}
-use Rattle.laws.proofs.Cases.{tested}
+use Rattle.std.proofs.lemmas.Bool.{cases_Bool}
 use Rattle.refusal.specs.Number.{number}
 use Rattle.refusal.specs.declared.Reason.TheVariants.{InvalidState}
 use Rattle.refusal.proofs.Positive.{not_zero}
 use Rattle.command.specs.declared.Command.{Command}
 use Rattle.command.specs.declared.Draw.{Draw}
-use Rattle.command.specs.Command.{Found, unit, kind_of, numbers_of}
+use Rattle.command.specs.Command.{Found, kind_of, numbers_of}
 use Rattle.effect.specs.Effect.{cp_after}
 use Rattle.fifo.specs.declared.Fifo.{Fifo}
-use Rattle.unit.specs.contracts.StepAnswer as Answers
-use Rattle.unit.specs.declared.StepAnswer.{StepAnswer}
-use Rattle.unit.specs.declared.StepAnswer.TheVariants.{Done, Waiting, Refused}
+use Rattle.command.specs.declared.StepAnswer.{StepAnswer}
+use Rattle.command.specs.declared.StepAnswer.TheVariants.{Done, Waiting, Refused}
 use Rattle.processor.specs.declared.taking.TakenUnit.{TakenUnit}
 use Rattle.running.specs.declared.Ran.{Ran}
 use Rattle.machine.specs.State.{State, state_of}
@@ -30,7 +28,8 @@ use Rattle.unit.specs.Answers.{meaning}
 use Rattle.processor.specs.Step.{executed, after, step_found, step_of, Steps}
 use Rattle.running.specs.Run.{Ended, ended, steps, gated, run_limit, run_of, meaning_of_stop, Reports}
 use Rattle.running.proofs.Invariant.{none_run}
-use Rattle.words.specs.declared.Front.TheVariants.{Held}
+use Rattle.std.specs.Prelude.{Some}
+use Rattle.words.specs.declared.Front.{Front}
 use Rattle.words.specs.State.{cp_of, bp_of, state_at, words_by}
 use Rattle.words.specs.Front.{front_of, words_after_unit}
 use Rattle.encoding.specs.Told.{first_of, second_of, answer_number, Tells}
@@ -40,8 +39,8 @@ use Rattle.stepping.specs.InPlace.{AheadKept}
 use Rattle.stepping.proofs.Placed.{kept_cp, kept_whole}
 
 -- the state that is handed on is the one that the words say
-pub handed : (l xf vertex : List ℕ) {f : Fifo} {cp bp : List ℕ} {draw : Draw} → Held f draw ≡ front_of l → cp ≡ cp_of l → bp ≡ bp_of l
-    → state_of f cp bp draw xf vertex ≡ state_at l xf vertex
+pub handed : (l xf vertex : List ℕ) {f : Front} {cp bp : List ℕ} → Some f ≡ front_of l → cp ≡ cp_of l → bp ≡ bp_of l
+    → state_of f.fifo cp bp f.draw xf vertex ≡ state_at l xf vertex
 handed l xf vertex h p q =
     let k = held_is l h in
     λ i. state_of (k.0 i) (p i) (q i) (k.1 i) xf vertex
@@ -56,17 +55,8 @@ as_lent of_bp kept left =
 -- ---- a look and a taking
 
 -- an answer that is no unit
-pub is_none : StepAnswer → Type 0
-is_none (Done c m n) = ⊥
-is_none (Waiting k) = Unit {0}
-is_none (Refused r) = Unit {0}
-
-pub none : (a : StepAnswer) → (tag_of Answers.the_type a ≡ 1) ⊎ (tag_of Answers.the_type a ≡ 2) → is_none a
-unfolding is_none
-none (Done d m l) (inl h) = omega arith
-none (Done d m l) (inr h) = omega arith
-none (Waiting k) h = tt
-none (Refused r) h = tt
+abbrev pub NotDone : StepAnswer → Type 0
+NotDone a = (c : Command) (m l : ℕ) → a ≡ Done c m l → ⊥
 
 module _ (ring : List ℕ) (s : State) (told : List ℕ) (lacking : ℕ) where
   -- words too wide: 1
@@ -80,22 +70,20 @@ module _ (ring : List ℕ) (s : State) (told : List ℕ) (lacking : ℕ) where
   looks e t = rw e at t
 
   -- waiting or a refusal
-  none_number : (a : StepAnswer) → is_none a → {r : ℕ} → r ≡ answer_number (meaning a) → eqb r 0 ≡ false
-  unfolding is_none
-  none_number (Done c m n) h e = absurd h
+  none_number : (a : StepAnswer) → NotDone a → {r : ℕ} → r ≡ answer_number (meaning a) → eqb r 0 ≡ false
+  none_number (Done c m n) h e = absurd (h c m n refl)
   none_number (Waiting k) h {r} e = ne_eqb r 0 (λ z. omega (arith, e, z))
   none_number (Refused reason) h e = not_zero reason e
 
-  none_after : (a : StepAnswer) → is_none a → after ring s (meaning a) ≡ s
-  unfolding is_none
-  none_after (Done c m n) h = absurd h
+  none_after : (a : StepAnswer) → NotDone a → after ring s (meaning a) ≡ s
+  none_after (Done c m n) h = absurd (h c m n refl)
   none_after (Waiting k) h = refl
   none_after (Refused reason) h = refl
 
   -- CP registers are those of the words where a command loads none
   whole_cp : (c cp held : List ℕ) → s.cp ≡ held → cp ≡ cp_after c s.cp → cond (eqb (kind_of c) 0x08) cp held ≡ cp
   unfolding cp_after
-  whole_cp c cp held e h = ⊎_elim (λ z. rw z) (λ z. rw z (sym (rw z at h ∙ e))) (tested (eqb (kind_of c) 0x08))
+  whole_cp c cp held e h = ⊎_elim (λ z. rw z) (λ z. rw z (sym (rw z at h ∙ e))) (cases_Bool (eqb (kind_of c) 0x08))
 
   module _ (words : List ℕ) where
     pub take_wide : {r : ℕ} → gate_of s (length ring) ≡ 1 → r ≡ number InvalidState
@@ -104,7 +92,7 @@ module _ (ring : List ℕ) (s : State) (told : List ℕ) (lacking : ℕ) where
 
     module _ {c : TakenUnit} {cp xf vertex taken told' : List ℕ} {r lacking' : ℕ} (h : Steps ring s c cp (bp_of taken) xf vertex)
         (kept : AheadKept words taken) where
-      pub take_none : s.bp ≡ bp_of words → is_none c.answer → Tells (meaning c.answer) told lacking r told' lacking'
+      pub take_none : s.bp ≡ bp_of words → NotDone c.answer → Tells (meaning c.answer) told lacking r told' lacking'
           → TakesOne ring s (lent_of words s.xf s.buffer) told lacking r (lent_of taken xf vertex) told' lacking'
       unfolding step_of
       take_none of_bp n t =
@@ -114,17 +102,18 @@ module _ (ring : List ℕ) (s : State) (told : List ℕ) (lacking : ℕ) where
 
       pub take_done : {words' : List ℕ} (command : Command) (memory n : ℕ) → s.cp ≡ cp_of words → c.answer ≡ Done command memory n
           → words' ≡ words_after_unit taken (kind_of (numbers_of command)) c.fifo cp c.draw
-          → Tells (unit (numbers_of command) memory n) told lacking r told' lacking'
+          → Tells (meaning c.answer) told lacking r told' lacking'
           → TakesOne ring s (lent_of words s.xf s.buffer) told lacking r (lent_of words' xf vertex) told' lacking'
       unfolding words_after_unit step_of executed
       take_done command memory n of_cp d w t =
           let found = ap meaning (sym d) ∙ h.answer_is in
           let left = h.state_is ∙ ap (after ring s) (sym found) in
           let p = whole_cp (numbers_of command) cp (cp_of taken) (of_cp ∙ sym (kept_cp kept)) (ap (λ (x : State). x.cp) left) in
+          let z : r ≡ 0 = t.answer_is ∙ ap (λ (x : StepAnswer). answer_number (meaning x)) d in
           let stored = w ∙ (λ i. words_by c.fifo (p i) (bp_of taken) c.draw) in
           record {
-            told = looks found t;
-            lent_is = rw t.answer_is (ap (λ (x : List ℕ). lent_of x xf vertex) stored ∙ ap lent_by h.state_is);
+            told = looks h.answer_is t;
+            lent_is = rw z (ap (λ (x : List ℕ). lent_of x xf vertex) stored ∙ ap lent_by h.state_is);
           }
 
 -- ---- a run

@@ -1,4 +1,5 @@
 // Looking at a unit and taking one, on the state's words.
+// As C has it: an answer is a number, and what is told or left goes to arrays that are lent.
 #![tactic(auto)]
 
 ghost use Rattle.std.specs.Prelude.{◌≡◌, length};
@@ -8,14 +9,14 @@ ghost use Rattle.words.specs.State.{bp_of, state_at};
 ghost use Rattle.stepping.specs.InPlace.{AheadKept};
 ghost use Rattle.stepping.specs.Calls.{lent_of, Looks, TakesOne};
 
-use command::Draw;
+use command::{Draw, StepAnswer};
 use fifo::Fifo;
 use processor::TakenUnit;
 use refusal::Reason;
-use unit::StepAnswer;
-use words::{BP_PLACE, Front};
+use words::BP_PLACE;
 
 // A taking whose BP registers are lent where they stand among the words.
+// `runner::run_words` is the same of a run: each says its own call's promise, `Steps` or `Reports`, of the words.
 fn take_words(
     state: &mut [u32],
     fifo: Fifo,
@@ -46,13 +47,12 @@ pub fn look(
     ensures { Looks ring.now (state_at state.now xf.now vertex.now)
         unit.old lacking.old result unit.new lacking.new }
 {
-    let front = words::read_front(state);
-    let Front::Held { fifo, draw } = front else {
-        return encoding::refused(Reason::InvalidState);
+    let Some(front) = words::read_front(state) else {
+        return u32::from(Reason::InvalidState);
     };
     let cp = words::cp(state);
-    let all = &state[..];
-    let answer = processor::look(fifo, &cp, &all[BP_PLACE..], draw, ring, xf, vertex);
+    let bp = &state[BP_PLACE..];
+    let answer = processor::look(front.fifo, &cp, bp, front.draw, ring, xf, vertex);
     answers::tell_answer(answer, unit, lacking)
 }
 
@@ -70,18 +70,14 @@ pub fn take(
         lacking.old result (lent_of state.new xf.new vertex.new)
         unit.new lacking.new }
 {
-    let front = words::read_front(state);
-    let Front::Held { fifo, draw } = front else {
-        return encoding::refused(Reason::InvalidState);
+    let Some(front) = words::read_front(state) else {
+        return u32::from(Reason::InvalidState);
     };
     let mut cp = words::cp(state);
-    let taken = take_words(state, fifo, &mut cp, draw, ring, xf, vertex);
-    let answer = taken.answer;
-    let StepAnswer::Done { command, .. } = answer else {
-        return answers::tell_answer(answer, unit, lacking);
+    let taken = take_words(state, front.fifo, &mut cp, front.draw, ring, xf, vertex);
+    let StepAnswer::Done { command, .. } = taken.answer else {
+        return answers::tell_answer(taken.answer, unit, lacking);
     };
-    let after = taken.fifo;
-    let left = taken.draw;
-    saving::save_unit(state, command, after, &cp, left);
-    answers::tell_answer(answer, unit, lacking)
+    saving::save_unit(state, command, taken.fifo, &cp, taken.draw);
+    answers::tell_answer(taken.answer, unit, lacking)
 }

@@ -2,17 +2,16 @@
 use mathlib.Core.Path.{◌≡◌, refl, sym, ap, subst, ◌∙◌}
 use mathlib.Core.List.{List}
 use Prim.Native.Nat.{ℕ, ◌≤◌}
-use Rattle.refusal.specs.Number.{number}
-use Rattle.refusal.specs.declared.Reason.{Reason}
 use Rattle.command.specs.declared.Command.{Command}
 use Rattle.command.specs.declared.Draw.{Draw}
-use Rattle.command.specs.Command.{Found, unit, waiting, refused, numbers_of}
+use Rattle.command.specs.Command.{Found, unit, numbers_of, meaning}
 use Rattle.command.specs.Look.{look_of}
 use Rattle.command.proofs.Bounds.{Fair, look_fair}
 use Rattle.effect.specs.Effect.{draw_after, Applied}
 use Rattle.cursor.specs.declared.Cursor.{Cursor}
 use Rattle.cursor.specs.Cursor.{peeked, skipped}
-use Rattle.unit.specs.declared.StepAnswer.TheVariants.{Done, Waiting, Refused}
+use Rattle.command.specs.declared.StepAnswer.{StepAnswer}
+use Rattle.command.specs.declared.StepAnswer.TheVariants.{Done, Waiting, Refused}
 use Rattle.unit.specs.Cursor.{seen, bytes_at, Takes}
 
 -- what is found by a cursor's first bytes is what it begins with
@@ -45,13 +44,13 @@ module _ {found : Found} {cursor : Cursor} {ring cp bp : List ℕ} {draw : Draw}
         buffer_is = a.buffer_is;
       })
 
-  pub takes_waiting : {k : ℕ} → waiting k ≡ found → Takes found cursor ring cp bp draw xf buffer (Waiting k) cursor draw cp bp xf buffer
-  takes_waiting e =
+  -- what is no unit changes nothing
+  pub takes_none : {answer : StepAnswer} → meaning answer ≡ found → ((c : Command) (m l : ℕ) → answer ≡ Done c m l → ⊥)
+      → Takes found cursor ring cp bp draw xf buffer answer cursor draw cp bp xf buffer
+  takes_none {answer = Done c m l} e other = absurd (other c m l refl)
+  takes_none {answer = Waiting k} e other =
       rw (← e)
       (record { answer_is = refl; cursor_is = refl; draw_is = refl; cp_is = refl; bp_is = refl; xf_is = refl; buffer_is = refl })
-
-  pub takes_refused : {r : Reason} → refused (number r) ≡ found
-      → Takes found cursor ring cp bp draw xf buffer (Refused r) cursor draw cp bp xf buffer
-  takes_refused e =
+  takes_none {answer = Refused r} e other =
       rw (← e)
       (record { answer_is = refl; cursor_is = refl; draw_is = refl; cp_is = refl; bp_is = refl; xf_is = refl; buffer_is = refl })

@@ -7,7 +7,7 @@ use Rattle.command.specs.Look.{look_of}
 use Rattle.effect.specs.Effect.{cp_after, bp_after, xf_after, vertex_after, draw_after}
 use Rattle.cursor.specs.declared.Cursor.{Cursor}
 use Rattle.cursor.specs.Cursor.{byte_of, peeked, skipped}
-use Rattle.unit.specs.declared.StepAnswer.{StepAnswer}
+use Rattle.command.specs.declared.StepAnswer.{StepAnswer}
 use Rattle.unit.specs.Answers.{meaning}
 
 -- what the cursor's bytes begin with

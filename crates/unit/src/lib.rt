@@ -2,32 +2,17 @@
 #![tactic(auto)]
 
 ghost use Rattle.std.specs.Prelude.{◌≡◌, ◌≤◌};
-ghost use Rattle.command.specs.Command as command;
 ghost use Rattle.command.specs.Command.{numbers_of};
 ghost use Rattle.command.specs.Look.{largest_vertex};
 ghost use Rattle.effect.specs.Effect.{Applied};
+ghost use Rattle.unit.specs.Answers.{meaning};
 ghost use Rattle.unit.specs.Cursor.{seen, bytes_at, Takes};
 
-use command::{Command, Draw, LARGEST_VERTEX, Next};
+use command::{Command, Draw, LARGEST_VERTEX, StepAnswer};
 use cursor::Cursor;
-use refusal::Reason;
-
-// "step answer enum whose done case holds the command enum and whose refused case holds the reason enum": what a look and a taking answer.
-#[derive(Clone, Copy)]
-pub enum StepAnswer {
-    // A unit, told by a look and done by a taking: its command, the memory address that an indexed load reports (0 for every other
-    // command), and its bytes.
-    Done {
-        command: Command,
-        memory: u32,
-        length: u32,
-    },
-    // That many bytes are lacking.
-    Waiting(u32),
-    Refused(Reason),
-}
 
 // What one unit leaves of the cursor and the draw, and its answer.
+// Told beside every answer, a refusal too (`Takes`). `TakenUnit` is the same of a fifo: one struct could call neither by its name.
 #[derive(Clone, Copy)]
 pub struct Moved {
     pub cursor: Cursor,
@@ -36,8 +21,9 @@ pub struct Moved {
 }
 
 // What the cursor begins with: a unit, or why there is none. It tests none of 1 to 5.
-pub fn look_at(cursor: Cursor, ring: &[u8], cp: &[u32; 60], draw: Draw) -> Next
-    ensures { command.meaning result ≡ seen cursor ring.now cp.now draw }
+#[tactic(auto, unfolding(crate::specs::Cursor::seen))]
+pub fn look_at(cursor: Cursor, ring: &[u8], cp: &[u32; 60], draw: Draw) -> StepAnswer
+    ensures { meaning result ≡ seen cursor ring.now cp.now draw }
 {
     let bytes = reading::peek(cursor, ring);
     looking::look(bytes, cursor.left, cp, draw)
@@ -45,6 +31,7 @@ pub fn look_at(cursor: Cursor, ring: &[u8], cp: &[u32; 60], draw: Draw) -> Next
 
 // The effect of a command whose unit is the cursor's first n bytes. Where they lie straight they are lent as a part of the ring, and else
 // gathered.
+// cp, bp, xf and buffer go one by one: in a struct of borrows each would ask a clause on its ghost name of all that pass it on.
 fn execute(
     command: Command,
     cursor: Cursor,
@@ -87,33 +74,23 @@ pub fn take_at(
         result.answer result.cursor result.draw cp.new bp.new xf.new buffer.new }
 {
     let bytes = reading::peek(cursor, ring);
-    let next = looking::look(bytes, cursor.left, cp, draw);
-    match next {
-        Next::Unit {
-            command,
-            memory,
-            length,
-        } => {
-            execute(command, cursor, ring, length, cp, bp, xf, buffer);
-            Moved {
-                cursor: cursor::skip(cursor, length),
-                draw: effect::next_draw(command, draw),
-                answer: StepAnswer::Done {
-                    command,
-                    memory,
-                    length,
-                },
-            }
-        }
-        Next::Waiting(lacking) => Moved {
+    let answer = looking::look(bytes, cursor.left, cp, draw);
+    let StepAnswer::Done {
+        command,
+        length,
+        ..
+    } = answer
+    else {
+        return Moved {
             cursor,
             draw,
-            answer: StepAnswer::Waiting(lacking),
-        },
-        Next::Refused(reason) => Moved {
-            cursor,
-            draw,
-            answer: StepAnswer::Refused(reason),
-        },
+            answer,
+        };
+    };
+    execute(command, cursor, ring, length, cp, bp, xf, buffer);
+    Moved {
+        cursor: cursor::skip(cursor, length),
+        draw: effect::next_draw(command, draw),
+        answer,
     }
 }

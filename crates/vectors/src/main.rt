@@ -1,8 +1,9 @@
 // Numbers of documents 01 and 02 that are run: a line for each, its name and what came out. A module for each thing that is run.
 #![tactic(auto)]
 
-mod line;
+mod bench;
 mod normals;
+mod number;
 mod patches;
 mod ring;
 mod taken;

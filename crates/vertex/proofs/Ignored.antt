@@ -7,7 +7,9 @@ use Rattle.fields.specs.Fields.{Alike}
 use Rattle.fields.proofs.Ignored.{mode_alike, count_alike, format_alike, fraction_alike, indices_alike}
 use Rattle.layout.specs.Sizes.{offset_of}
 use Rattle.layout.proofs.Ignored.{offset_alike, refusal_alike}
-use Rattle.vertex.specs.declared.Answer.{Answer}
+use Rattle.std.specs.Prelude.{Result}
+use Rattle.refusal.specs.declared.Reason.{Reason}
+use Rattle.vertex.specs.declared.Attribute.{Attribute}
 use Rattle.vertex.specs.declared.RawWords.{RawWords}
 use Rattle.vertex.specs.Attributes.{attribute_list, singles_of}
 use Rattle.vertex.specs.Answers.{refusal_at, decoding_of, has_components, HasComponent, raw_of, Decodes, RawIs}
@@ -45,7 +47,7 @@ module _ (d e : Descriptor) (a : Alike d e) (k : ℕ) (l : List ℕ) where
   raw_same : (i : ℕ) → raw_of d k l i ≡ raw_of e k l i
   raw_same i = rw (offset_alike d e a k, format_alike d e a k)
 
-  decoded_alike : (r : Answer) → Decodes d k l r → Decodes e k l r
+  decoded_alike : (r : Result Attribute Reason) → Decodes d k l r → Decodes e k l r
   decoded_alike r t =
       record {
         meaning_is = rw (← decoding_same) t.meaning_is;
@@ -61,11 +63,10 @@ module _ (d e : Descriptor) (a : Alike d e) (k : ℕ) (l : List ℕ) where
   unfolding singles_of
   singles_same = rw (mode_alike d e a k, format_alike d e a k, count_alike d e a k)
 
-  raw_alike : (r : RawWords) → RawIs d k l r → RawIs e k l r
+  raw_alike : (r : Result RawWords Reason) → RawIs d k l r → RawIs e k l r
   raw_alike r t =
       record {
-        answer_is = rw (← refusal_same, ← singles_same) t.answer_is;
-        words_is = rw (← refusal_same, ← singles_same, ← offset_alike d e a k) t.words_is;
+        answer_is = rw (← refusal_same, ← singles_same, ← offset_alike d e a k) t.answer_is;
       }
 
 pub decoding_promises : DecodingPromises

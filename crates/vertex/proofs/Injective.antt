@@ -8,15 +8,14 @@ use lib.Dec.{T}
 use lib.ListN.{get_or, drop}
 use lib.Ieee.{Float, binary32, fits, of_bits, to_bits}
 use lib.Ieee.Bits.{of_bits-to_bits}
+use Rattle.std.specs.Prelude.{Result, Ok, Err}
+use Rattle.refusal.specs.declared.Reason.{Reason}
 use Rattle.refusal.proofs.Injective.{number_injective}
 use Rattle.refusal.proofs.Positive.{number_some}
 use Rattle.vertex.specs.declared.Triple.{Triple}
 use Rattle.vertex.specs.declared.Attribute.{Attribute}
 use Rattle.vertex.specs.declared.Attribute.TheVariants.{Absent, Matrix, Index, Indices, Colour, Position, Texture, Normal, Frame}
-use Rattle.vertex.specs.declared.Answer.{Answer}
-use Rattle.vertex.specs.declared.Answer.TheVariants.{Done, Refused}
-use Rattle.vertex.specs.declared.RawAnswer.{RawAnswer}
-use Rattle.vertex.specs.declared.RawAnswer.TheVariants as raw
+use Rattle.vertex.specs.declared.RawWords.{RawWords}
 use Rattle.vertex.specs.Answers.{told, meaning, raw_meaning, SingleTriple, SingleAttribute, SingleAnswer}
 
 single : ℕ → Float
@@ -72,15 +71,18 @@ found (Frame u v w) h =
 pub told_injective : (a b : Attribute) → SingleAttribute a → SingleAttribute b → told a ≡ told b → a ≡ b
 told_injective a b h k e = sym (found a h) ∙ ap again e ∙ found b k
 
-pub meaning_injective : (a b : Answer) → SingleAnswer a → SingleAnswer b → meaning a ≡ meaning b → a ≡ b
-meaning_injective (Done a) (Done b) h k e = ap Done (told_injective a b h k (ap (λ (l : List ℕ). drop 1 l) e))
-meaning_injective (Done a) (Refused s) h k e = absurd (omega (arith, number_some s, ap (λ (l : List ℕ). get_or l 0 0) e))
-meaning_injective (Refused r) (Done b) h k e = absurd (omega (arith, number_some r, ap (λ (l : List ℕ). get_or l 0 0) e))
-meaning_injective (Refused r) (Refused s) h k e = ap Refused (number_injective r s (ap (λ (l : List ℕ). get_or l 0 0) e))
+pub meaning_injective : (a b : Result Attribute Reason) → SingleAnswer a → SingleAnswer b → meaning a ≡ meaning b → a ≡ b
+meaning_injective (Ok a) (Ok b) h k e = ap Ok (told_injective a b h k (ap (λ (l : List ℕ). drop 1 l) e))
+meaning_injective (Ok a) (Err s) h k e = absurd (omega (arith, number_some s, ap (λ (l : List ℕ). get_or l 0 0) e))
+meaning_injective (Err r) (Ok b) h k e = absurd (omega (arith, number_some r, ap (λ (l : List ℕ). get_or l 0 0) e))
+meaning_injective (Err r) (Err s) h k e = ap Err (number_injective r s (ap (λ (l : List ℕ). get_or l 0 0) e))
 
--- and so do those of a count of raw words
-pub raw_injective : (a b : RawAnswer) → raw_meaning a ≡ raw_meaning b → a ≡ b
-raw_injective (raw.Count n) (raw.Count m) e = ap raw.Count (ap (λ (l : List ℕ). get_or l 1 0) e)
-raw_injective (raw.Count n) (raw.Refused s) e = absurd (omega (arith, number_some s, ap (λ (l : List ℕ). get_or l 0 0) e))
-raw_injective (raw.Refused r) (raw.Count m) e = absurd (omega (arith, number_some r, ap (λ (l : List ℕ). get_or l 0 0) e))
-raw_injective (raw.Refused r) (raw.Refused s) e = ap raw.Refused (number_injective r s (ap (λ (l : List ℕ). get_or l 0 0) e))
+-- and so do those of raw words
+pub raw_injective : (a b : Result RawWords Reason) → raw_meaning a ≡ raw_meaning b → a ≡ b
+raw_injective (Ok a) (Ok b) e =
+    let c : a.count ≡ b.count = cc in
+    let w : a.words ≡ b.words = cc in
+    ap Ok (λ i. record { count = c i; words = w i })
+raw_injective (Ok a) (Err s) e = absurd (omega (arith, number_some s, ap (λ (l : List ℕ). get_or l 0 0) e))
+raw_injective (Err r) (Ok b) e = absurd (omega (arith, number_some r, ap (λ (l : List ℕ). get_or l 0 0) e))
+raw_injective (Err r) (Err s) e = ap Err (number_injective r s (ap (λ (l : List ℕ). get_or l 0 0) e))

@@ -155,7 +155,8 @@ module _ (d : Descriptor) (k : ℕ) (l : List ℕ) (at : ℕ) where
   unfolding attribute_list
   attribute_matrix z h = rw (ne_eqb (mode_of d k) 0 z, lt-ltb k 9 h)
 
-  pub attribute_direct : 9 ≤ k → mode_of d k ≡ 1 → attribute_list d k l at ≡ direct_list l at k (count_of d k) (format_of d k) (fraction_of d k)
+  pub attribute_direct : 9 ≤ k → mode_of d k ≡ 1
+      → attribute_list d k l at ≡ direct_list l at k (count_of d k) (format_of d k) (fraction_of d k)
   unfolding attribute_list
   attribute_direct h e = rw (ne_eqb (mode_of d k) 0 some, le-ltb k 9 h, eq-eqb (mode_of d k) 1 e)
     where

@@ -10,8 +10,8 @@ use lib.Dec.{T, leb, eqb}
 use lib.ListN.{get_or, replicate, get_or-append}
 use lib.Ieee.{Float, nan, binary32, to_bits, nan_bits}
 use borrow.Author.Tests.{leb-true, eqb-true, not-true}
+use Rattle.std.proofs.lemmas.Bool.{and_parts}
 use Rattle.laws.specs.Values.{up_to}
-use Rattle.laws.proofs.Cases.{and_left, and_right}
 use Rattle.laws.proofs.Filled.{length_up_to, get_d_up_to}
 use Rattle.octets.proofs.Number.{Octets, big_lt}
 use Rattle.component.specs.Single.{Exact}
@@ -22,7 +22,9 @@ use Rattle.fields.specs.Fields.{mode_of, count_of, format_of, fraction_of}
 use Rattle.fields.specs.Components.{is_colour, components_of}
 use Rattle.layout.specs.Sizes.{offset_of}
 use Rattle.fields.proofs.Bounds.{fraction_lt}
-use Rattle.vertex.specs.declared.Answer.{Answer}
+use Rattle.std.specs.Prelude.{Result}
+use Rattle.refusal.specs.declared.Reason.{Reason}
+use Rattle.vertex.specs.declared.Attribute.{Attribute}
 use Rattle.vertex.specs.Attributes.{raw_at, component_at, bits_of, padded_list, kind_of, full_of, component_list, attribute_list}
 use Rattle.vertex.specs.Answers.{meaning, refusal_at, decoding_of, has_components, raw_of, HasComponent, Decodes}
 use Rattle.vertex.proofs.Lists.{attribute_direct, direct_other}
@@ -47,7 +49,8 @@ list_at : (l : List ℕ) (at k count f s i : ℕ) → i < components_of k count 
     (2 + i) 0 ≡ bits_of l at f s i
 unfolding component_list
 list_at l at k count f s i h =
-    third 0 (kind_of k count) (padded_list l at f s (components_of k count) (full_of k count)) i ∙ padded_at l at f s (components_of k count)
+    third 0 (kind_of k count) (padded_list l at f s (components_of k count) (full_of k count)) i
+    ∙ padded_at l at f s (components_of k count)
     (full_of k count) i h
 
 module _ (d : Descriptor) (k : ℕ) (l : List ℕ) where
@@ -55,10 +58,10 @@ module _ (d : Descriptor) (k : ℕ) (l : List ℕ) where
       (format_of d k) (fraction_of d k)
   unfolding has_components
   direct_list_lem e =
-      let both = and_right (leb 9 k) (not (is_colour k) && eqb (mode_of d k) 1) e in
-      let other : is_colour k ≡ false = not-true (is_colour k) (and_left (not (is_colour k)) (eqb (mode_of d k) 1) both) in
-      attribute_direct d k l (offset_of d k) (leb-true 9 k (and_left (leb 9 k) (not (is_colour k) && eqb (mode_of d k) 1) e))
-      (eqb-true (mode_of d k) 1 (and_right (not (is_colour k)) (eqb (mode_of d k) 1) both))
+      let both = (and_parts (leb 9 k) (not (is_colour k) && eqb (mode_of d k) 1) e).1 in
+      let other : is_colour k ≡ false = not-true (is_colour k) (and_parts (not (is_colour k)) (eqb (mode_of d k) 1) both).0 in
+      attribute_direct d k l (offset_of d k) (leb-true 9 k (and_parts (leb 9 k) (not (is_colour k) && eqb (mode_of d k) 1) e).0)
+      (eqb-true (mode_of d k) 1 (and_parts (not (is_colour k)) (eqb (mode_of d k) 1) both).1)
       ∙ sym (direct_other l (offset_of d k) k (count_of d k) (format_of d k) (fraction_of d k) other)
 
   abbrev bits_at : ℕ → ℕ
@@ -96,7 +99,8 @@ unfolding to_bits
 nan_bits_lem = refl
 
 -- the promise, from the answer's numbers alone
-pub decodes : (d : Descriptor) (k : ℕ) (l : List ℕ) (r : Answer) → Octets l → meaning r ≡ decoding_of d k l → Decodes d k l r
+pub decodes : (d : Descriptor) (k : ℕ) (l : List ℕ) (r : Result Attribute Reason) → Octets l → meaning r ≡ decoding_of d k l
+    → Decodes d k l r
 decodes d k l r b e = record {
   meaning_is = e;
   exact = λ i h f. subst (λ (x : ℕ). Exact (integer_of (format_of d k) (raw_of d k l i)) (fraction_of d k) x) (sym (stands i h))

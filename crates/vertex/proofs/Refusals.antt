@@ -13,12 +13,7 @@ use Rattle.layout.specs.Answers.{refusal_of}
 use Rattle.refusal.specs.Number.{number}
 use Rattle.refusal.specs.declared.Reason.{Reason}
 use Rattle.refusal.proofs.Positive.{number_some}
-use Rattle.layout.specs.Answers as laying
-use Rattle.layout.specs.declared.LayoutAnswer.{LayoutAnswer}
-use Rattle.layout.specs.declared.LayoutAnswer.TheVariants as layout
-use Rattle.vertex.specs.declared.Place.{Place}
-use Rattle.vertex.specs.declared.Place.TheVariants as place
-use Rattle.vertex.specs.Answers.{located, refusal_at, unless}
+use Rattle.vertex.specs.Answers.{refusal_at, unless}
 
 module _ (d : Descriptor) (k : ℕ) (l : List ℕ) where
   pub refused_layout : (refusal_of d ≡ 0 → ⊥) → refusal_at d k l ≡ refusal_of d
@@ -44,18 +39,13 @@ unless_refused_lem n m l e z = rw (ne_eqb n 0 (λ h. z (sym e ∙ h))) (ap (λ (
 pub unless_accepted : (n : ℕ) (l : List ℕ) → n ≡ 0 → 0 ∷ l ≡ unless n l
 unless_accepted n l e = rw (eq-eqb n 0 e)
 
--- ---- from the answer of the layout
 -- a layout that is refused refuses the attribute, for the same reason
-pub layout_refused : (d : Descriptor) (k : ℕ) (l rest : List ℕ) {a : LayoutAnswer} {reason : Reason} → a ≡ layout.Refused reason
-    → laying.meaning a ≡ refusal_of d ∷ [] → number reason ∷ [] ≡ unless (refusal_at d k l) rest
-layout_refused d k l rest {a} {reason} p e =
-    let n : number reason ≡ refusal_of d = ap (λ (l : List ℕ). get_or l 0 0) (sym (ap laying.meaning p) ∙ e) in
+pub layout_refused : (d : Descriptor) (k : ℕ) (l rest : List ℕ) (reason : Reason) → number reason ∷ [] ≡ refusal_of d ∷ []
+    → number reason ∷ [] ≡ unless (refusal_at d k l) rest
+layout_refused d k l rest reason e =
+    let n : number reason ≡ refusal_of d = cc in
     let z : refusal_of d ≡ 0 → ⊥ = λ h. omega (arith, number_some reason) in
     unless_refused_lem (refusal_at d k l) (number reason) rest (refused_layout d k l z ∙ sym n) (λ h. z (sym n ∙ h))
-
--- one that is accepted has no refusal
-pub layout_accepted : (d : Descriptor) {a : LayoutAnswer} → a ≡ layout.Accepted → laying.meaning a ≡ refusal_of d ∷ [] → refusal_of d ≡ 0
-layout_accepted d p e = sym (ap (λ (l : List ℕ). get_or l 0 0) (sym (ap laying.meaning p) ∙ e))
 
 -- ---- from the place of an attribute
 -- the first number is the refusal, or 0
@@ -67,14 +57,13 @@ head_unless n l = go (eqb n 0) refl
     go false e = refl
 
 -- a place that is refused refuses the rest, for the same reason
-pub place_refused : (n : ℕ) (l rest : List ℕ) {p : Place} {reason : Reason} → p ≡ place.Refused reason → located p ≡ unless n l
-    → (n ≡ 0 → ⊥) × (number reason ∷ [] ≡ unless n rest)
-place_refused n l rest {p} {reason} e h =
-    let same : n ≡ number reason = sym (head_unless n l) ∙ ap (λ (l : List ℕ). get_or l 0 0) (sym h ∙ ap located e) in
-    ((λ z. omega (arith, number_some reason)), unless_refused_lem n (number reason) rest same (λ z. omega (arith, number_some reason)))
+pub place_refused : (n : ℕ) (l rest : List ℕ) (reason : Reason) → number reason ∷ [] ≡ unless n l → number reason ∷ [] ≡ unless n rest
+place_refused n l rest reason h =
+    let same : n ≡ number reason = sym (head_unless n l) ∙ ap (λ (l : List ℕ). get_or l 0 0) (sym h) in
+    unless_refused_lem n (number reason) rest same (λ z. omega (arith, number_some reason))
 
 -- a place that is found is the attribute's, and nothing is refused
-pub place_found : (n o : ℕ) {p : Place} {at : ℕ} → p ≡ place.At at → located p ≡ unless n (o ∷ []) → (n ≡ 0) × (at ≡ o)
-place_found n o {p} {at} e h =
-    let zero_is : n ≡ 0 = sym (head_unless n (o ∷ [])) ∙ ap (λ (l : List ℕ). get_or l 0 0) (sym h ∙ ap located e) in
-    (zero_is, ap (λ (l : List ℕ). get_or l 1 0) (sym (ap located e) ∙ h ∙ sym (unless_accepted n (o ∷ []) zero_is)))
+pub place_found : (n o at : ℕ) → 0 ∷ at ∷ [] ≡ unless n (o ∷ []) → (n ≡ 0) × (at ≡ o)
+place_found n o at h =
+    let zero_is : n ≡ 0 = sym (head_unless n (o ∷ [])) ∙ ap (λ (l : List ℕ). get_or l 0 0) (sym h) in
+    (zero_is, ap (λ (l : List ℕ). get_or l 1 0) (h ∙ sym (unless_accepted n (o ∷ []) zero_is)))

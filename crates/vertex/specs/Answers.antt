@@ -1,8 +1,10 @@
 -- The numbers of each answer, and what `locate`, `decode` and `raw_words` promise by them.
-use Rattle.std.specs.Prelude.{◌≡◌, Bool, true, not, cond, ◌&&◌, List, [], ◌∷◌, ℕ, ◌+◌, ◌<◌, T, leb, ltb, eqb, length, get_or, replicate, Float}
+use Rattle.std.specs.Prelude.{◌≡◌, Bool, true, not, cond, ◌&&◌, List, [], ◌∷◌, ℕ, ◌+◌, ◌<◌, T, leb, ltb, eqb, length, get_or, Float}
+use Rattle.std.specs.Prelude.{Result, Ok, Err}
 use Rattle.std.specs.Float.{binary32}
 use Rattle.std.specs.Float.Ieee.{fits, to_bits, nan_bits}
-use Rattle.refusal.specs.Number.{number}
+use Rattle.refusal.specs.Outcome.{answer_of}
+use Rattle.refusal.specs.declared.Reason.{Reason}
 use Rattle.component.specs.Single.{Exact}
 use Rattle.component.specs.Component.{integer_of}
 use Rattle.fields.specs.declared.Descriptor.{Descriptor}
@@ -13,13 +15,6 @@ use Rattle.layout.specs.Answers.{refusal_of}
 use Rattle.vertex.specs.declared.Triple.{Triple}
 use Rattle.vertex.specs.declared.Attribute.{Attribute}
 use Rattle.vertex.specs.declared.Attribute.TheVariants.{Absent, Matrix, Index, Indices, Colour, Position, Texture, Normal, Frame}
-use Rattle.vertex.specs.declared.Answer.{Answer}
-use Rattle.vertex.specs.declared.Answer.TheVariants.{Done}
-use Rattle.vertex.specs.declared.Answer.TheVariants as answer
-use Rattle.vertex.specs.declared.Place.{Place}
-use Rattle.vertex.specs.declared.Place.TheVariants as place
-use Rattle.vertex.specs.declared.RawAnswer.{RawAnswer}
-use Rattle.vertex.specs.declared.RawAnswer.TheVariants as raw
 use Rattle.vertex.specs.declared.RawWords.{RawWords}
 use Rattle.vertex.specs.Attributes.{raw_at, attribute_list, singles_of, words_of}
 
@@ -44,14 +39,12 @@ told (Normal t) = 7 ∷ triple_bits t []
 told (Frame u v w) = 8 ∷ triple_bits u (triple_bits v (triple_bits w []))
 
 -- an answer: the refusal's number alone, or 0, the kind and the values
-abbrev pub meaning : Answer → List ℕ
-meaning (Done a) = 0 ∷ told a
-meaning (answer.Refused r) = number r ∷ []
+abbrev pub meaning : Result Attribute Reason → List ℕ
+meaning = answer_of told
 
--- a count of raw words: the refusal's number alone, or 0 and the count
-abbrev pub raw_meaning : RawAnswer → List ℕ
-raw_meaning (raw.Count n) = 0 ∷ n ∷ []
-raw_meaning (raw.Refused r) = number r ∷ []
+-- raw words: the refusal's number alone, or 0, their count and nine words
+abbrev pub raw_meaning : Result RawWords Reason → List ℕ
+raw_meaning = answer_of (λ r. r.count ∷ r.words)
 
 -- "attribute number above 20, or vertex slice not of the layout's length", after 9 and 10
 unfoldable pub refusal_at : Descriptor → ℕ → List ℕ → ℕ
@@ -82,7 +75,7 @@ raw_of d k l i = raw_at l (offset_of d k) (format_of d k) i
 -- what `decode` promises: which answer it is;
 -- that each component of an integer format is exactly its integer over 2 to the fraction bits;
 -- that each f32 keeps its pattern, and is a NaN where that is one's
-pub record Decodes (d : Descriptor) (k : ℕ) (l : List ℕ) (r : Answer) : Type 0 where
+pub record Decodes (d : Descriptor) (k : ℕ) (l : List ℕ) (r : Result Attribute Reason) : Type 0 where
   pub meaning_is : meaning r ≡ decoding_of d k l
   pub exact : (i : ℕ) → HasComponent d k l i → format_of d k < 4
       → Exact (integer_of (format_of d k) (raw_of d k l i)) (fraction_of d k) (get_or (meaning r) (2 + i) 0)
@@ -91,10 +84,9 @@ pub record Decodes (d : Descriptor) (k : ℕ) (l : List ℕ) (r : Answer) : Type
   pub nan_is : (i : ℕ) → HasComponent d k l i → format_of d k ≡ 4 → T (nan_bits binary32 (raw_of d k l i))
       → get_or (meaning r) (2 + i) 0 ≡ 0x7FC00000
 
--- what `raw_words` promises: how many f32 components there are, and nine words, all 0 where it is refused
-pub record RawIs (d : Descriptor) (k : ℕ) (l : List ℕ) (r : RawWords) : Type 0 where
-  pub answer_is : raw_meaning r.answer ≡ unless (refusal_at d k l) (singles_of d k ∷ [])
-  pub words_is : r.words ≡ cond (eqb (refusal_at d k l) 0) (words_of l (offset_of d k) (singles_of d k)) (replicate 9 0)
+-- what `raw_words` promises: the refusal, or how many f32 components there are, and nine words
+pub record RawIs (d : Descriptor) (k : ℕ) (l : List ℕ) (r : Result RawWords Reason) : Type 0 where
+  pub answer_is : raw_meaning r ≡ unless (refusal_at d k l) (singles_of d k ∷ words_of l (offset_of d k) (singles_of d k))
 
 -- three floats of single precision
 pub record SingleTriple (t : Triple) : Type 0 where
@@ -115,16 +107,15 @@ SingleAttribute (Normal t) = SingleTriple t
 SingleAttribute (Frame u v w) = SingleTriple u × SingleTriple v × SingleTriple w
 
 -- and of an answer
-abbrev pub SingleAnswer : Answer → Type 0
-SingleAnswer (Done a) = SingleAttribute a
-SingleAnswer (answer.Refused r) = Unit {0}
+abbrev pub SingleAnswer : Result Attribute Reason → Type 0
+SingleAnswer (Ok a) = SingleAttribute a
+SingleAnswer (Err r) = Unit {0}
 
 -- ---- for the code's own functions
 
 -- a place: the refusal's number alone, or 0 and the place
-abbrev pub located : Place → List ℕ
-located (place.At n) = 0 ∷ n ∷ []
-located (place.Refused r) = number r ∷ []
+abbrev pub located : Result ℕ Reason → List ℕ
+located = answer_of (λ n. n ∷ [])
 
 -- where attribute k starts
 abbrev pub location_of : Descriptor → ℕ → List ℕ → List ℕ

@@ -8,8 +8,7 @@ ghost use Rattle.fields.specs.Fields.{field_of};
 ghost use Rattle.vertex.specs.Attributes.{component_at, triple_at, position_at, component_list, direct_list, index_list, attribute_list};
 ghost use Rattle.vertex.specs.Answers.{told, located, location_of, Decodes, RawIs};
 
-use fields::{Descriptor, Field, attributes};
-use layout::LayoutAnswer;
+use fields::{Descriptor, Field, Mode, attributes};
 use refusal::Reason;
 
 // Three single-precision components.
@@ -35,104 +34,108 @@ pub enum Attribute {
     Frame(Triple, Triple, Triple),
 }
 
-#[derive(Clone, Copy)]
-pub enum Answer {
-    Done(Attribute),
-    Refused(Reason),
-}
-
-// Where an attribute starts in a vertex.
-#[derive(Clone, Copy)]
-enum Place {
-    At(u8),
-    Refused(Reason),
-}
-
-#[derive(Clone, Copy)]
-pub enum RawAnswer {
-    Count(u32),
-    Refused(Reason),
-}
-
-// How many f32 components an attribute has, and their patterns as they stand, zeros after. A refused one has zeros.
-#[derive(Clone, Copy)]
+// How many f32 components an attribute has, and their patterns as they stand, zeros after.
+// Nine words and a count, not a slice: there is no heap, and the zeros are told too (`RawIs`).
+#[derive(Clone, Copy, Debug, PartialEq, Eq)]
 pub struct RawWords {
-    pub answer: RawAnswer,
+    pub count: u32,
     pub words: [u32; 9],
 }
 
-// Component i of those that start at a place.
-fn component_at(vertex: &[u8], at: u8, format: u32, fraction: u32, i: u32) -> f32
-    requires { i < 9 }
-    ensures { result ≡ component_at vertex.now at format fraction i }
-{
-    let w = component::width(format);
-    component::decode_component(format, octets::read(vertex, at as u32 + i * w, w), fraction)
+// Components in a vertex: where the first of them starts, their format and their fraction bits.
+#[derive(Clone, Copy)]
+struct Components<'a> {
+    vertex: &'a [u8],
+    at: u8,
+    format: u32,
+    fraction: u32,
 }
 
-// Three components from the one of a number on.
-fn triple_at(vertex: &[u8], at: u8, format: u32, fraction: u32, first: u32) -> Triple
-    requires { first ≤ 6 }
-    ensures { result ≡ triple_at vertex.now at format fraction first }
-{
-    let x = component_at(vertex, at, format, fraction, first);
-    let y = component_at(vertex, at, format, fraction, first + 1);
-    let z = component_at(vertex, at, format, fraction, first + 2);
-    Triple { x, y, z }
-}
-
-// A position of two or three components, the absent third +0.
-fn read_position(vertex: &[u8], at: u8, count: u32, format: u32, fraction: u32) -> Triple
-    ensures { result ≡ position_at vertex.now at count format fraction }
-{
-    let x = component_at(vertex, at, format, fraction, 0);
-    let y = component_at(vertex, at, format, fraction, 1);
-    if count % 2 == 0 {
-        return Triple { x, y, z: 0.0 };
+impl Components<'_> {
+    fn component(&self, i: u32) -> f32
+        requires { i < 9 }
+        ensures { result ≡ component_at self.now.vertex.now self.now.at self.now.format self.now.fraction i }
+    {
+        let w = component::width(self.format);
+        let raw = octets::read(self.vertex, u32::from(self.at) + i * w, w);
+        component::decode_component(self.format, raw, self.fraction)
     }
-    let z = component_at(vertex, at, format, fraction, 2);
-    Triple { x, y, z }
-}
 
-// A normal of three components, or of nine.
-fn read_normal(vertex: &[u8], at: u8, count: u32, format: u32, fraction: u32) -> Attribute
-    ensures { told result ≡ component_list vertex.now at 10 count format fraction }
-{
-    let u = triple_at(vertex, at, format, fraction, 0);
-    if count % 2 == 0 {
-        return Attribute::Normal(u);
+    // Three components from the one of a number on.
+    fn triple(&self, first: u32) -> Triple
+        requires { first ≤ 6 }
+        ensures { result ≡ triple_at self.now.vertex.now self.now.at self.now.format self.now.fraction first }
+    {
+        Triple {
+            x: self.component(first),
+            y: self.component(first + 1),
+            z: self.component(first + 2),
+        }
     }
-    let v = triple_at(vertex, at, format, fraction, 3);
-    let w = triple_at(vertex, at, format, fraction, 6);
-    Attribute::Frame(u, v, w)
-}
 
-// A texture of one or two components, the absent second +0.
-fn read_texture(vertex: &[u8], at: u8, count: u32, format: u32, fraction: u32) -> Attribute
-    ensures { told result ≡ component_list vertex.now at 13 count format fraction }
-{
-    let x = component_at(vertex, at, format, fraction, 0);
-    if count % 2 == 0 {
-        return Attribute::Texture(x, 0.0);
+    // A position of two or three components, the absent third +0.
+    fn position(&self, count: u32) -> Triple
+        ensures { result ≡ position_at self.now.vertex.now self.now.at count self.now.format self.now.fraction }
+    {
+        let x = self.component(0);
+        let y = self.component(1);
+        if count % 2 == 0 {
+            return Triple { x, y, z: 0.0 };
+        }
+        let z = self.component(2);
+        Triple { x, y, z }
     }
-    let y = component_at(vertex, at, format, fraction, 1);
-    Attribute::Texture(x, y)
+
+    // A normal of three components, or of nine.
+    fn normal(&self, count: u32) -> Attribute
+        ensures { told result ≡ component_list self.now.vertex.now self.now.at 10 count self.now.format self.now.fraction }
+    {
+        let u = self.triple(0);
+        if count % 2 == 0 {
+            return Attribute::Normal(u);
+        }
+        let v = self.triple(3);
+        let w = self.triple(6);
+        Attribute::Frame(u, v, w)
+    }
+
+    // A texture of one or two components, the absent second +0.
+    fn texture(&self, count: u32) -> Attribute
+        ensures { told result ≡ component_list self.now.vertex.now self.now.at 13 count self.now.format self.now.fraction }
+    {
+        let x = self.component(0);
+        if count % 2 == 0 {
+            return Attribute::Texture(x, 0.0);
+        }
+        let y = self.component(1);
+        Attribute::Texture(x, y)
+    }
 }
 
 // What stands in the vertex itself.
-fn read_direct(vertex: &[u8], at: u8, k: usize, count: u32, format: u32, fraction: u32) -> Attribute
-    ensures { told result ≡ direct_list vertex.now at k count format fraction }
+fn read_direct(vertex: &[u8], at: u8, k: usize, field: Field) -> Attribute
+    ensures { told result ≡ direct_list vertex.now at k field.count field.format field.fraction }
 {
+    let Field {
+        count,
+        format,
+        fraction,
+        ..
+    } = field;
     if fields::is_colour(k) {
-        return Attribute::Colour(octets::read(vertex, at as u32, fields::colour_width(format)));
+        return Attribute::Colour(octets::read(vertex, u32::from(at), fields::colour_width(format)));
     }
-    if k == attributes::POSITION {
-        return Attribute::Position(read_position(vertex, at, count, format, fraction));
+    let components = Components {
+        vertex,
+        at,
+        format,
+        fraction,
+    };
+    match k {
+        attributes::POSITION => Attribute::Position(components.position(count)),
+        attributes::NORMAL => components.normal(count),
+        _ => components.texture(count),
     }
-    if k == attributes::NORMAL {
-        return read_normal(vertex, at, count, format, fraction);
-    }
-    read_texture(vertex, at, count, format, fraction)
 }
 
 // One index of n bytes, or three.
@@ -140,16 +143,18 @@ fn read_indices(vertex: &[u8], at: u8, times: u32, n: u32) -> Attribute
     requires { n ≤ 2 }
     ensures { told result ≡ index_list vertex.now at times n }
 {
-    let x = octets::read(vertex, at as u32, n);
+    let at = u32::from(at);
+    let x = octets::read(vertex, at, n);
     if times != 3 {
         return Attribute::Index(x);
     }
-    let y = octets::read(vertex, at as u32 + n, n);
-    let z = octets::read(vertex, at as u32 + 2 * n, n);
+    let y = octets::read(vertex, at + n, n);
+    let z = octets::read(vertex, at + 2 * n, n);
     Attribute::Indices(x, y, z)
 }
 
 // What the descriptor says of attribute k; positions, which are asked for most, have a way of their own, with constant places.
+// A descriptor and a number go side by side, as the public functions have them: nothing is promised of the two together.
 fn field_of(descriptor: Descriptor, k: usize) -> Field
     ensures { result ≡ field_of descriptor k }
 {
@@ -164,69 +169,43 @@ fn decode_at(descriptor: Descriptor, k: usize, vertex: &[u8], at: u8) -> Attribu
     ensures { told result ≡ attribute_list descriptor k vertex.now at }
 {
     let field = field_of(descriptor, k);
-    let mode = field.mode;
-    if mode == 0 {
-        return Attribute::Absent;
+    match field.mode {
+        Mode::Absent => Attribute::Absent,
+        _ if k < attributes::POSITION => Attribute::Matrix(octets::read(vertex, u32::from(at), 1)),
+        Mode::Direct => read_direct(vertex, at, k, field),
+        index => read_indices(vertex, at, field.indices, index.index_width()),
     }
-    if k < attributes::POSITION {
-        return Attribute::Matrix(octets::read(vertex, at as u32, 1));
-    }
-    if mode == 1 {
-        return read_direct(vertex, at, k, field.count, field.format, field.fraction);
-    }
-    read_indices(vertex, at, field.indices, mode - 1)
 }
 
 // Where attribute k starts, or the reason why it is refused: 9, 10, then 19.
-fn locate(descriptor: Descriptor, k: usize, vertex: &[u8]) -> Place
+fn locate(descriptor: Descriptor, k: usize, vertex: &[u8]) -> Result<u8, Reason>
     ensures { located result ≡ location_of descriptor k vertex.now }
 {
     let spot = layout::find(descriptor, k);
-    let answer = spot.answer;
-    let length = spot.length;
-    let offset = spot.offset;
-    match answer {
-        LayoutAnswer::Refused(reason) => Place::Refused(reason),
-        LayoutAnswer::Accepted => {
-            if attributes::TEXTURE7 < k {
-                return Place::Refused(Reason::NotOfLayout);
-            }
-            if vertex.len() == length as usize {
-                let at = offset as u8;
-                return Place::At(at);
-            }
-            Place::Refused(Reason::NotOfLayout)
-        }
+    let length = spot.length?;
+    if k < attributes::COUNT && vertex.len() == length as usize {
+        Ok(spot.offset as u8)
+    } else {
+        Err(Reason::NotOfLayout)
     }
 }
 
 // Attribute k of a vertex, or the reason why it is refused: 9, 10, then 19.
-pub fn decode(descriptor: Descriptor, k: usize, vertex: &[u8]) -> Answer
+pub fn decode(descriptor: Descriptor, k: usize, vertex: &[u8]) -> Result<Attribute, Reason>
     ensures { Decodes descriptor k vertex.now result }
 {
-    let place = locate(descriptor, k, vertex);
-    match place {
-        Place::Refused(reason) => Answer::Refused(reason),
-        Place::At(at) => Answer::Done(decode_at(descriptor, k, vertex, at)),
-    }
+    let at = locate(descriptor, k, vertex)?;
+    Ok(decode_at(descriptor, k, vertex, at))
 }
 
 // The patterns of attribute k's f32 components, or the reason why it is refused: 9, 10, then 19.
-pub fn raw_words(descriptor: Descriptor, k: usize, vertex: &[u8]) -> RawWords
+pub fn raw_words(descriptor: Descriptor, k: usize, vertex: &[u8]) -> Result<RawWords, Reason>
     ensures { RawIs descriptor k vertex.now result }
 {
-    let place = locate(descriptor, k, vertex);
-    match place {
-        Place::Refused(reason) => RawWords {
-            answer: RawAnswer::Refused(reason),
-            words: [0u32; 9],
-        },
-        Place::At(at) => {
-            let n = raw::count(descriptor, k);
-            RawWords {
-                answer: RawAnswer::Count(n),
-                words: raw::gather(vertex, at, n),
-            }
-        }
-    }
+    let at = locate(descriptor, k, vertex)?;
+    let count = raw::count(descriptor, k);
+    Ok(RawWords {
+        count,
+        words: raw::gather(vertex, at, count),
+    })
 }

@@ -14,9 +14,6 @@ use Rattle.walk.specs.Moves.{Moves}
 
 -- ---- the bytes from a place on
 
-pub rest_at : (bytes : List ℕ) (at k : ℕ) → get_or (drop at bytes) k 0 ≡ get_or bytes (at + k) 0
-rest_at bytes at k = get_or-drop at bytes k 0
-
 pub first_at : (bytes : List ℕ) (at : ℕ) → get_or (drop at bytes) 0 0 ≡ get_or bytes at 0
 first_at bytes at = get_or-drop at bytes 0 0 ∙ ap (λ (x : ℕ). get_or bytes x 0) (add-zero at)
 

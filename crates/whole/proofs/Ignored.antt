@@ -2,15 +2,16 @@
 use mathlib.Core.Path.{◌≡◌, refl}
 use mathlib.Core.List.{List}
 use Prim.Native.Nat.{ℕ, zero, suc}
+use Rattle.std.specs.Prelude.{Result}
+use Rattle.refusal.specs.declared.Reason.{Reason}
 use Rattle.fields.specs.declared.Descriptor.{Descriptor}
 use Rattle.fields.specs.Fields.{Alike}
-use Rattle.layout.specs.declared.LayoutAnswer.{LayoutAnswer}
 use Rattle.vertex.proofs.Ignored.{refusal_same, attribute_same}
 use Rattle.whole.specs.Whole.{DecodesOne, DecodesAll, whole_to}
 use Rattle.whole.specs.Promises.{TellingPromises}
 
 module _ (d e : Descriptor) (a : Alike d e) where
-  one_alike : (k : ℕ) (l values : List ℕ) (r : LayoutAnswer) (values' : List ℕ) → DecodesOne d k l values r values'
+  one_alike : (k : ℕ) (l values : List ℕ) (r : Result (Unit {0}) Reason) (values' : List ℕ) → DecodesOne d k l values r values'
       → DecodesOne e k l values r values'
   one_alike k l values r values' t =
       record {
@@ -23,7 +24,8 @@ module _ (d e : Descriptor) (a : Alike d e) where
   whole_alike l zero = refl
   whole_alike l (suc k) = rw (whole_alike l k, attribute_same d e a k l)
 
-  all_alike : (l values : List ℕ) (r : LayoutAnswer) (values' : List ℕ) → DecodesAll d l values r values' → DecodesAll e l values r values'
+  all_alike : (l values : List ℕ) (r : Result (Unit {0}) Reason) (values' : List ℕ) → DecodesAll d l values r values'
+      → DecodesAll e l values r values'
   all_alike l values r values' t =
       record {
         answer_is = rw (← refusal_same d e a 0 l) t.answer_is;

@@ -1,9 +1,9 @@
 -- Components of four bytes, which are singles as they stand.
 use mathlib.Core.Path.{◌≡◌, refl, sym, ap, ◌∙◌, subst}
-use mathlib.Core.Bool.{Bool, cond, not}
+use mathlib.Core.Bool.{Bool, not}
 use mathlib.Core.List.{List}
 use Prim.Native.Nat.{ℕ, ◌+◌, ◌*◌, ◌%◌, ◌<◌, ◌≤◌}
-use lib.Dec.{T, ltb, lit≤}
+use lib.Dec.{T, lit≤}
 use lib.Ieee.{Float, binary32, of_bits, to_bits}
 use lib.Ieee.Bits.{nan_bits_above}
 use borrow.Author.Tests.{lt-ltb, le-ltb}
@@ -12,8 +12,7 @@ use Rattle.component.specs.Component.{component_of}
 use Rattle.component.proofs.Widths.{width_single}
 use Rattle.component.proofs.Patterns.{component_single, of_single, kept_bits, nan_bits_lem}
 use Rattle.vertex.specs.Attributes.{raw_at, component_at, bits_of}
-use Rattle.whole.specs.declared.components.Three.{Three}
-use Rattle.whole.specs.Inner.{UpToThree}
+use Rattle.whole.specs.Inner.{three_list}
 
 -- every NaN is told as one
 pub nan_told : (b : ℕ) → 2139095040 < b % 2147483648 → 0x7FC00000 ≡ to_bits binary32 (of_bits binary32 b)
@@ -44,9 +43,5 @@ single_alike l at f s i h =
     raw : ℕ
     raw = big_endian l (at + i * 4) 4
 
-pub three_alike : (l : List ℕ) (at f s n : ℕ) {r : Three} → 4 ≤ f → UpToThree l at 4 s n r → UpToThree l at f s n r
-three_alike l at f s n h u = record {
-  x_is = u.x_is ∙ single_alike l at f s 0 h;
-  y_is = u.y_is ∙ ap (λ (x : ℕ). cond (ltb n 2) 0 x) (single_alike l at f s 1 h);
-  z_is = u.z_is ∙ ap (λ (x : ℕ). cond (ltb n 3) 0 x) (single_alike l at f s 2 h);
-}
+pub three_alike : (l : List ℕ) (at f s n : ℕ) → 4 ≤ f → three_list l at 4 s n ≡ three_list l at f s n
+three_alike l at f s n h = rw (single_alike l at f s 0 h, single_alike l at f s 1 h, single_alike l at f s 2 h)

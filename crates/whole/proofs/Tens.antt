@@ -1,15 +1,15 @@
 -- Ten words for each attribute: what an attribute's kind and components are word by word, and words put one after the other.
-use mathlib.Core.Path.{◌≡◌, refl, sym, ap, ap₂, ◌∙◌}
+use mathlib.Core.Path.{◌≡◌, refl, sym, ap, ◌∙◌}
 use mathlib.Core.Bool.{Bool, true, false, cond}
 use mathlib.Core.Logic.{inl, inr}
 use mathlib.Core.List.{List, [], ◌∷◌, ◌++◌, append_assoc, append-nil}
 use Prim.Native.Nat.{ℕ, zero, suc, ◌+◌, ◌-◌, ◌*◌, ◌%◌, ◌<◌, ◌≤◌}
-use native.Mathlib.Nat.{mod-lt, mul-le-mul, le_refl, add-zero, le_of_eq, eq-or-lt_of_le, le_of_suc-le-suc, not-suc-le-zero}
+use native.Mathlib.Nat.{mod-lt, mul-le-mul, le_refl, le_of_eq, eq-or-lt_of_le, le_of_suc-le-suc, not-suc-le-zero}
 use native.Mathlib.Numerals.{add-one}
 use native.Mathlib.Omega.{arith}
 use lib.Dec.{eqb, lit<}
-use lib.ListN.{length, get_or, take, drop, set, replicate, length-append, length-drop, take-append-drop, drop_of_length-le}
-use lib.Seq.{take-suc, drop-drop, drop-cons, set_at, append_snoc, take_at, drop_at, length-take-le}
+use lib.ListN.{length, take, drop, replicate, length-append, drop_of_length-le}
+use lib.Seq.{drop-drop, take_at, drop_at, length-take-le}
 use borrow.Author.Tests.{lt-ltb}
 use Rattle.laws.specs.Values.{up_to}
 use Rattle.fields.specs.declared.Descriptor.{Descriptor}
@@ -20,7 +20,7 @@ use Rattle.vertex.specs.Attributes.{bits_of, padded_list, component_list, attrib
 use Rattle.vertex.specs.Answers.{refusal_at}
 use Rattle.encoding.specs.Told.{padded}
 use Rattle.whole.specs.Whole.{whole_to, whole_refusal}
-use Rattle.whole.specs.Inner.{ten_at, few_list, frame_list, few_kind, ToldAt, TellsFrom}
+use Rattle.whole.specs.Inner.{ten_at, three_list, frame_list, few_kind, ToldAt, TellsFrom}
 
 -- ---- components, by the number of the attribute and the count bit
 
@@ -36,7 +36,7 @@ module _ (l : List ℕ) (at f s : ℕ) where
       ∷ (up_to (bits_of l at f s) (many_of a b c) ++ replicate (cond b (many_of a b c) (many_of a b 1) - many_of a b c) 0)
 
   few_by : (a b : Bool) (c : ℕ) → c < 2 → (many_of a b c ≡ 9 → ⊥)
-      → padded 10 (few_list (cond a 5 (cond b 7 6)) l at f s (many_of a b c)) ≡ padded 10 (listed a b c)
+      → padded 10 (cond a 5 (cond b 7 6) ∷ three_list l at f s (many_of a b c)) ≡ padded 10 (listed a b c)
   unfolding up_to
   few_by true true zero h n = refl
   few_by true true (suc zero) h n = refl
@@ -58,7 +58,7 @@ module _ (l : List ℕ) (at f s : ℕ) where
 
   module _ (k count : ℕ) where
     pub few_told : (components_of k count ≡ 9 → ⊥)
-        → padded 10 (few_list (few_kind k) l at f s (components_of k count)) ≡ padded 10 (component_list l at k count f s)
+        → padded 10 (few_kind k ∷ three_list l at f s (components_of k count)) ≡ padded 10 (component_list l at k count f s)
     unfolding component_list padded_list
     few_told n = few_by (eqb k 9) (eqb k 10) (count % 2) (mod-lt count (lit< tt)) n
 
@@ -66,35 +66,19 @@ module _ (l : List ℕ) (at f s : ℕ) where
     unfolding component_list padded_list
     frame_told n = frame_by (eqb k 9) (eqb k 10) (count % 2) (mod-lt count (lit< tt)) n
 
+-- the kind and the components of a normal of nine, by their places
+abbrev pub framed : List ℕ → ℕ → ℕ → ℕ → ℕ → ℕ
+framed l at f s zero = 8
+framed l at f s (suc i) = bits_of l at f s i
+
+pub framed_at : (l : List ℕ) (at f s i : ℕ) → bits_of l at f s i ≡ framed l at f s (i + 1)
+framed_at l at f s i =
+    let e : i + 1 ≡ suc i = omega arith in
+    rw e refl
+
 -- fewer components have room where more do
 pub room_for : (at m n w most : ℕ) → m ≤ n → at + n * w ≤ most → at + m * w ≤ most
 room_for at m n w most h k = omega (arith, mul-le-mul h (le_refl w))
-
--- ---- one word after the other
-pub put_none : (old : List ℕ) (at : ℕ) (words : List ℕ) → old ≡ take at old ++ (take 0 words ++ drop (at + 0) old)
-put_none old at [] = rw (add-zero at) (sym (take-append-drop at old))
-put_none old at (x ∷ words) = rw (add-zero at) (sym (take-append-drop at old))
-
-pub put_next : (old words : List ℕ) (at i : ℕ) {l : List ℕ} → i < length words → at + i < length old
-    → l ≡ take at old ++ (take i words ++ drop (at + i) old)
-    → set l (at + i) (get_or words i 0) ≡ take at old ++ (take (i + 1) words ++ drop (at + (i + 1)) old)
-put_next old words at i {l} h k e =
-    let v : ℕ = get_or words i 0 in
-    let front : List ℕ = take at old ++ take i words in
-    let rest : List ℕ = drop (suc (at + i)) old in
-    let many : length front ≡ at + i =
-    length-append (take at old) (take i words) ∙ ap₂ (λ (x y : ℕ). x + y) (length-take-le at old (omega arith)) (length-take-le i words
-    (omega arith))
-    in
-    let split : l ≡ front ++ (get_or old (at + i) 0 ∷ rest) =
-    e ∙ sym (append_assoc (take at old) (take i words) (drop (at + i) old)) ∙ ap (λ (x : List ℕ). front ++ x) (drop-cons old (at + i) 0 k)
-    in
-    let next : at + (i + 1) ≡ suc (at + i) = omega arith in
-    let taken : take (i + 1) words ≡ take i words ++ (v ∷ []) = rw (add-one i) (take-suc words i 0 h) in
-    rw (next, taken)
-    (ap (λ (x : List ℕ). set x (at + i) v) split ∙ set_at front (get_or old (at + i) 0) rest v (at + i) many
-    ∙ append_assoc (take at old) (take i words) (v ∷ rest)
-    ∙ ap (λ (x : List ℕ). take at old ++ x) (sym (append_snoc (take i words) v rest)))
 
 -- ---- one attribute after the other
 pub length_padded : (x : List ℕ) → length (padded 10 x) ≡ 10
@@ -109,17 +93,6 @@ length_whole d l (suc k) =
       length-append (whole_to d l k) (padded 10 (attribute_list d k l (offset_of d k))),
       length_whole d l k,
       length_padded (attribute_list d k l (offset_of d k)),
-    )
-
-length_ten : (slot : ℕ) (words values : List ℕ) → slot + 10 ≤ length values → length words ≡ 10
-    → length (ten_at slot words values) ≡ length values
-length_ten slot words values h e =
-    omega (
-      arith,
-      length-append (take slot values) (words ++ drop (slot + 10) values),
-      length-append words (drop (slot + 10) values),
-      length-take-le slot values (omega arith),
-      length-drop (slot + 10) values,
     )
 
 ten_more : (k : ℕ) → 10 * k + 10 ≡ 10 * suc k
@@ -141,37 +114,34 @@ ten_front d l k old values e =
 
 module _ (d : Descriptor) (l : List ℕ) where
   -- attribute k is told
-  pub tells_ten : (k slot : ℕ) (values words : List ℕ) (at n r : ℕ) {values' : List ℕ} → slot + 10 ≤ length values → at ≡ offset_of d k
+  pub tells_ten : (k slot : ℕ) (values words : List ℕ) (at n r : ℕ) {values' : List ℕ} → at ≡ offset_of d k
       → words ≡ padded 10 (attribute_list d k l at) → n ≡ size_of d k → r ≡ at + n → values' ≡ ten_at slot words values
       → ToldAt d k l slot values r values'
-  tells_ten k slot values words at n r {values'} h e w s q v =
+  tells_ten k slot values words at n r {values'} e w s q v =
       let w' : words ≡ padded 10 (attribute_list d k l (offset_of d k)) = w ∙ ap (λ (x : ℕ). padded 10 (attribute_list d k l x)) e in
       let v' : values' ≡ ten_at slot (padded 10 (attribute_list d k l (offset_of d k))) values =
       v ∙ ap (λ (x : List ℕ). ten_at slot x values) w' in
       record {
         next_is = q ∙ sum_next d k at n e s;
-        many = ap (λ (x : List ℕ). length x) v' ∙ length_ten slot (padded 10 (attribute_list d k l (offset_of d k))) values h
-            (length_padded (attribute_list d k l (offset_of d k)));
         told = v';
       }
 
   -- to its place among all
-  pub moves_told : (k : ℕ) {values : List ℕ} {r : ℕ} {values' : List ℕ} → length values ≡ 210 → ToldAt d k l (10 * k) values r values'
+  pub moves_told : (k : ℕ) {values : List ℕ} {r : ℕ} {values' : List ℕ} → ToldAt d k l (10 * k) values r values'
       → TellsFrom d l k (k + 1) values r values'
-  moves_told k {values} many t = record {
+  moves_told k {values} t = record {
     at_is = t.next_is;
-    many = t.many ∙ many;
     told = λ old f. t.told ∙ rw (add-one k) (ten_front d l k old values f);
   }
 
   -- and then others
   pub moves_then : {i j k a b : ℕ} {u v w : List ℕ} → TellsFrom d l i j u a v → TellsFrom d l j k v b w → TellsFrom d l i k u b w
-  moves_then f g = record { at_is = g.at_is; many = g.many; told = λ old e. g.told old (f.told old e) }
+  moves_then f g = record { at_is = g.at_is; told = λ old e. g.told old (f.told old e) }
 
   -- none yet
-  pub moves_none : (values : List ℕ) → length values ≡ 210 → TellsFrom d l 0 0 values 0 values
+  pub moves_none : (values : List ℕ) → TellsFrom d l 0 0 values 0 values
   unfolding offset_of
-  moves_none values h = record { at_is = refl; many = h; told = λ old e. e }
+  moves_none values = record { at_is = refl; told = λ old e. e }
 
   -- all of them
   pub moves_all : (values values' : List ℕ) (r : ℕ) → length values ≡ 210 → TellsFrom d l 0 21 values r values' → values' ≡ whole_to d l 21

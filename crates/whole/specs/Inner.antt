@@ -1,5 +1,5 @@
 -- For the code's own functions: nobody needs to read this to believe the crate.
-use Rattle.std.specs.Prelude.{◌≡◌, cond, List, [], ◌∷◌, ◌++◌, ℕ, ◌+◌, ◌*◌, ◌<◌, ◌≤◌, eqb, ltb, length, take, drop}
+use Rattle.std.specs.Prelude.{◌≡◌, cond, List, [], ◌∷◌, ◌++◌, ℕ, ◌+◌, ◌*◌, ◌<◌, ◌≤◌, eqb, ltb, take, drop}
 use Rattle.laws.specs.Values.{up_to}
 use Rattle.octets.specs.BigEndian.{big_endian}
 use Rattle.fields.specs.declared.Descriptor.{Descriptor}
@@ -8,7 +8,6 @@ use Rattle.fields.specs.Fields.{field_of}
 use Rattle.layout.specs.Sizes.{offset_of}
 use Rattle.vertex.specs.Attributes.{bits_of, attribute_list}
 use Rattle.encoding.specs.Told.{padded}
-use Rattle.whole.specs.declared.components.Three.{Three}
 use Rattle.whole.specs.Whole.{whole_to}
 
 -- ten words put from a place on
@@ -20,14 +19,8 @@ abbrev pub matrix_list : ℕ → List ℕ → ℕ → List ℕ
 matrix_list bit l at = cond (eqb bit 0) (0 ∷ []) (1 ∷ big_endian l at 1 ∷ [])
 
 -- the bits of the first n components, of 1 to 3, and 0 for the others
-pub record UpToThree (l : List ℕ) (at format fraction n : ℕ) (r : Three) : Type 0 where
-  pub x_is : r.x ≡ bits_of l at format fraction 0
-  pub y_is : r.y ≡ cond (ltb n 2) 0 (bits_of l at format fraction 1)
-  pub z_is : r.z ≡ cond (ltb n 3) 0 (bits_of l at format fraction 2)
-
--- a kind and up to three components
-abbrev pub few_list : ℕ → List ℕ → ℕ → ℕ → ℕ → ℕ → List ℕ
-few_list kind l at f s n = kind ∷ bits_of l at f s 0 ∷ cond (ltb n 2) 0 (bits_of l at f s 1) ∷ cond (ltb n 3) 0 (bits_of l at f s 2) ∷ []
+abbrev pub three_list : List ℕ → ℕ → ℕ → ℕ → ℕ → List ℕ
+three_list l at f s n = bits_of l at f s 0 ∷ cond (ltb n 2) 0 (bits_of l at f s 1) ∷ cond (ltb n 3) 0 (bits_of l at f s 2) ∷ []
 
 -- the kind and the components of a normal of nine
 abbrev pub frame_list : List ℕ → ℕ → ℕ → ℕ → List ℕ
@@ -37,30 +30,19 @@ frame_list l at f s = 8 ∷ up_to (bits_of l at f s) 9
 abbrev pub few_kind : ℕ → ℕ
 few_kind k = cond (eqb k 9) 5 (cond (eqb k 10) 7 6)
 
--- attribute k of a whole vertex is to be told from its place on, to ten words
-pub record Untold (d : Descriptor) (field : Field) (k : ℕ) (l : List ℕ) (at slot : ℕ) (values : List ℕ) : Type 0 where
+-- attribute k, which is no matrix, with its field and its place
+pub record Placed (d : Descriptor) (field : Field) (k at : ℕ) : Type 0 where
   pub field_is : field ≡ field_of d k
   pub least : 9 ≤ k
   pub most : k < 21
   pub at_is : at ≡ offset_of d k
-  pub whole : length l ≡ offset_of d 21
-  pub space : slot + 10 ≤ length values
 
--- attribute k is told, with as many words as before, and the next one's place
+-- attribute k is told, and the next one's place
 pub record ToldAt (d : Descriptor) (k : ℕ) (l : List ℕ) (slot : ℕ) (values : List ℕ) (r : ℕ) (values' : List ℕ) : Type 0 where
   pub next_is : r ≡ offset_of d (k + 1)
-  pub many : length values' ≡ length values
   pub told : values' ≡ ten_at slot (padded 10 (attribute_list d k l (offset_of d k))) values
-
--- attribute k of a whole vertex is to be told alone from its place on
-pub record Alone (d : Descriptor) (k : ℕ) (l : List ℕ) (at : ℕ) (values : List ℕ) : Type 0 where
-  pub most : k < 21
-  pub at_is : at ≡ offset_of d k
-  pub whole : length l ≡ offset_of d 21
-  pub many : length values ≡ 10
 
 -- the attributes from j to before k are told: where those before j stood over an old content, those before k do
 pub record TellsFrom (d : Descriptor) (l : List ℕ) (j k : ℕ) (values : List ℕ) (r : ℕ) (values' : List ℕ) : Type 0 where
   pub at_is : r ≡ offset_of d k
-  pub many : length values' ≡ 210
   pub told : (old : List ℕ) → values ≡ whole_to d l j ++ drop (10 * j) old → values' ≡ whole_to d l k ++ drop (10 * k) old

@@ -1,7 +1,7 @@
 -- One attribute of a vertex as ten words, and a whole vertex: what 21 decodes tell, one after the other.
-use Rattle.std.specs.Prelude.{◌≡◌, cond, List, [], ◌∷◌, ◌++◌, ℕ, zero, suc, eqb}
+use Rattle.std.specs.Prelude.{◌≡◌, cond, List, [], ◌∷◌, ◌++◌, ℕ, zero, suc, eqb, Result}
+use Rattle.refusal.specs.declared.Reason.{Reason}
 use Rattle.fields.specs.declared.Descriptor.{Descriptor}
-use Rattle.layout.specs.declared.LayoutAnswer.{LayoutAnswer}
 use Rattle.layout.specs.Sizes.{offset_of}
 use Rattle.layout.specs.Answers.{meaning}
 use Rattle.vertex.specs.Attributes.{attribute_list}
@@ -9,7 +9,7 @@ use Rattle.vertex.specs.Answers.{refusal_at}
 use Rattle.encoding.specs.Told.{padded}
 
 -- what `decode_one` promises: the refusal, and ten words, or what was lent as it was
-pub record DecodesOne (d : Descriptor) (k : ℕ) (l values : List ℕ) (r : LayoutAnswer) (values' : List ℕ) : Type 0 where
+pub record DecodesOne (d : Descriptor) (k : ℕ) (l values : List ℕ) (r : Result (Unit {0}) Reason) (values' : List ℕ) : Type 0 where
   pub answer_is : meaning r ≡ refusal_at d k l ∷ []
   pub values_are : values' ≡ cond (eqb (refusal_at d k l) 0) (padded 10 (attribute_list d k l (offset_of d k))) values
 
@@ -23,6 +23,6 @@ abbrev pub whole_refusal : Descriptor → List ℕ → ℕ
 whole_refusal d l = refusal_at d 0 l
 
 -- what `decode_all` promises: the refusal, and all words, or what was lent as it was
-pub record DecodesAll (d : Descriptor) (l values : List ℕ) (r : LayoutAnswer) (values' : List ℕ) : Type 0 where
+pub record DecodesAll (d : Descriptor) (l values : List ℕ) (r : Result (Unit {0}) Reason) (values' : List ℕ) : Type 0 where
   pub answer_is : meaning r ≡ whole_refusal d l ∷ []
   pub values_are : values' ≡ cond (eqb (whole_refusal d l) 0) (whole_to d l 21) values

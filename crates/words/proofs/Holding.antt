@@ -9,7 +9,7 @@ use lib.Dec.{eqb, ltb, lit<}
 use lib.ListN.{length, get_or, take}
 use lib.Seq.{get_or-drop, drop-drop}
 use borrow.Author.Tests.{eqb-true, ltb-true}
-use Rattle.laws.proofs.Cases.{cond_both, and_right}
+use Rattle.std.proofs.lemmas.Bool.{and_parts, cond_both}
 use Rattle.octets.specs.BigEndian.{Octets}
 use Rattle.command.specs.declared.Draw.{Draw}
 use Rattle.command.specs.declared.Draw.TheVariants.{Closed, Open}
@@ -42,14 +42,14 @@ counted_holds (Open p f n) h = opened_holds p f (n - 1) (omega (arith, h))
 draw_holds : (c : List ℕ) (d : Draw) → Ranged c → HoldsDraw d → HoldsDraw (draw_after c d)
 unfolding draw_after
 draw_holds c d r h =
-    cond_both HoldsDraw (eqb (kind_of c) 0x80)
+    cond_both (eqb (kind_of c) 0x80) _ _ HoldsDraw
     (λ e. opened_holds (field_of c 1) (field_of c 2) (field_of c 3) (r.count (eqb-true (kind_of c) 0x80 e)))
-    (λ _. cond_both HoldsDraw (eqb (kind_of c) 0x01) (λ _. counted_holds d h) (λ _. h))
+    (λ _. cond_both (eqb (kind_of c) 0x01) _ _ HoldsDraw (λ _. counted_holds d h) (λ _. h))
 
 left_lt : (flag left : ℕ) → left_of flag left < 2 ^ 16
 left_lt flag left =
-    cond_both (λ n. n < 2 ^ 16) (eqb flag 1 && ltb left (2 ^ 16))
-    (λ e. ltb-true left (2 ^ 16) (and_right (eqb flag 1) (ltb left (2 ^ 16)) e))
+    cond_both (eqb flag 1 && ltb left (2 ^ 16)) _ _ (λ n. n < 2 ^ 16)
+    (λ e. ltb-true left (2 ^ 16) (and_parts (eqb flag 1) (ltb left (2 ^ 16)) e).1)
     (λ _. lit< tt)
 
 -- ---- the state that words say, and the state after a taking
@@ -59,7 +59,7 @@ unfolding draw_of
 holds_words l xf vertex n = record {
   cp_length = cp_length l n;
   bp_length = bp_length l n;
-  of_draw = cond_both HoldsDraw (eqb (get_or l 7 0) 0) (λ _. tt) (λ _. left_lt (get_or l 7 0) (get_or l 10 0));
+  of_draw = cond_both (eqb (get_or l 7 0) 0) _ _ HoldsDraw (λ _. tt) (λ _. left_lt (get_or l 7 0) (get_or l 10 0));
 }
 
 after_holds : (ring : List ℕ) (s : State) (found : Found) → Ranges found → Holds s → Holds (after ring s found)

@@ -16,7 +16,7 @@ use Rattle.command.specs.declared.Draw.{Draw}
 use Rattle.command.specs.declared.Draw.TheVariants.{Closed, Open}
 use Rattle.fifo.specs.declared.Fifo.{Fifo}
 use Rattle.queue.specs.Feeding.{put}
-use Rattle.words.specs.State.{cp_of, bp_of, fifo_words, draw_words, words_by}
+use Rattle.words.specs.State.{cp_of, bp_of, fifo_words, draw_words, words_by, fifo_stored}
 use Rattle.words.specs.Front.{words_after_unit}
 
 -- a part in the middle stored anew
@@ -76,17 +76,16 @@ module _ (f : Fifo) (draw : Draw) (l : List ℕ) (long : length l ≡ 327) where
       let b : take 256 (drop 71 l) ≡ drop 71 l = take_all 256 (drop 71 l) (omega (arith, length-drop 71 l)) in
       sym (take-append-drop 60 (drop 11 l)) ∙ ap (λ (x : List ℕ). take 60 (drop 11 l) ++ x) (drop-drop 60 11 l ∙ sym b)
 
-  pub front_saved : {front drawn once out : List ℕ} → front ≡ fifo_words f → drawn ≡ draw_words draw
-      → once ≡ put l 0 front → out ≡ put once 7 drawn → out ≡ words_by f (cp_of l) (bp_of l) draw
-  unfolding words_by
-  front_saved of-front of-drawn e1 e2 =
-      let once : _ ≡ fifo_words f ++ drop 7 l = e1 ∙ ap (λ (x : List ℕ). put l 0 x) of-front in
+  pub front_saved : {drawn once out : List ℕ} → drawn ≡ draw_words draw → once ≡ fifo_stored l f → out ≡ put once 7 drawn
+      → out ≡ words_by f (cp_of l) (bp_of l) draw
+  unfolding words_by fifo_stored
+  front_saved of-drawn e1 e2 =
       let old : drop 7 l ≡ take 4 (drop 7 l) ++ drop 11 l =
       sym (take-append-drop 4 (drop 7 l)) ∙ ap (λ (x : List ℕ). take 4 (drop 7 l) ++ x) (drop-drop 4 7 l) in
       let n : length (take 4 (drop 7 l)) ≡ length (draw_words draw) =
       length-take-le 4 (drop 7 l) (omega (arith, length-drop 7 l)) ∙ sym (draw_length draw) in
       e2
-      ∙ (λ i. put ((once ∙ ap (λ (x : List ℕ). fifo_words f ++ x) old) i) 7 (of-drawn i))
+      ∙ (λ i. put ((e1 ∙ ap (λ (x : List ℕ). fifo_words f ++ x) old) i) 7 (of-drawn i))
       ∙ put_middle (fifo_words f) (take 4 (drop 7 l)) (draw_words draw) (drop 11 l) 7 refl n
       ∙ ap (λ (x : List ℕ). fifo_words f ++ (draw_words draw ++ x)) parts
 

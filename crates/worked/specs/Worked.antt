@@ -8,7 +8,8 @@ use Rattle.laws.specs.Values.{up_to}
 use Rattle.octets.specs.BigEndian.{big_endian, bytes_of}
 use Rattle.component.specs.Component.{component_of}
 use Rattle.fields.specs.declared.Descriptor.{Descriptor}
-use Rattle.fields.specs.Fields.{bits_at, modes, counts, formats, shifts, mode_of, count_of, format_of, fraction_bits, fraction_of, indices_of}
+use Rattle.fields.specs.Fields.{bits_at, modes, counts, formats, shifts, mode_of, count_of, format_of}
+use Rattle.fields.specs.Fields.{fraction_bits, fraction_of, indices_of}
 use Rattle.layout.specs.Sizes.{direct_of, size_of, offset_of, unknown_at, any_unknown}
 use Rattle.layout.specs.Answers.{refusal_of, accepted_of, length_of}
 use Rattle.vertex.specs.Attributes.{raw_at, component_at, padded_list, component_list, direct_list, attribute_list}

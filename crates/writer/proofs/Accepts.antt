@@ -9,7 +9,7 @@ use lib.Dec.{leb, ltb, eqb}
 use lib.ListN.{length, get_or, take, drop, length-drop}
 use lib.Seq.{length-take-le}
 use borrow.Author.Tests.{le-leb, lt-leb, lt-ltb, eq-eqb, eqb-true, leb-true, ltb-true, ltb-false}
-use Rattle.laws.proofs.Cases.{cond_both, and_left, and_right}
+use Rattle.std.proofs.lemmas.Bool.{and_parts, cond_both}
 use Rattle.octets.specs.BigEndian.{big_endian}
 use Rattle.octets.proofs.Number.{Octets, big_lt, octets_take}
 use Rattle.layout.specs.Answers.{refusal_of}
@@ -39,7 +39,7 @@ Again u xf (refused r) = Unit {0}
 again_whole : (u xf : List ℕ) (n length' : ℕ) (c : List ℕ) (m : ℕ) → (length' ≡ length u → Rewrites u xf c)
     → Again u xf (whole n length' c m)
 unfolding whole
-again_whole u xf n length' c m f = cond_both (Again u xf) (ltb n length') (λ _. tt) (λ _. f)
+again_whole u xf n length' c m f = cond_both (ltb n length') _ _ (Again u xf) (λ _. tt) (λ _. f)
 
 again_unless : (u xf : List ℕ) (r : ℕ) (x : Found) → Again u xf x → Again u xf (unless_refused r x)
 again_unless u xf zero x h = h
@@ -66,8 +66,8 @@ module _ (u xf : List ℕ) (o : Octets u) (size : length xf ≡ xf_count) (n : �
   of_cp : get_or u 0 0 ≡ 0x08 → Again u xf (look_cp u n)
   unfolding look_cp unwritable unaddressed past_end
   of_cp e =
-      cond_both (Again u xf) (ltb n 2) (λ _. tt)
-      (λ _. cond_both (Again u xf) (cp_accepted (get_or u 1 0))
+      cond_both (ltb n 2) _ _ (Again u xf) (λ _. tt)
+      (λ _. cond_both (cp_accepted (get_or u 1 0)) _ _ (Again u xf)
       (λ a. again_whole u xf n 6 _ 0 (λ l. record { writable = refl; addressed = rw a; within = refl; bytes = cp_again u xf o (sym l) e }))
       (λ _. tt))
 
@@ -90,8 +90,8 @@ module _ (u xf : List ℕ) (o : Octets u) (size : length xf ≡ xf_count) (n : �
   of_head_lem : (op : ℕ) → get_or u 0 0 ≡ op → is_draw op ≡ true → Again u xf (look_head op u n cp)
   unfolding look_head unwritable unaddressed past_end
   of_head_lem op e d =
-      let lo : 0x80 ≤ op = leb-true 0x80 op (and_left (leb 0x80 op) (ltb op 0xC0) d) in
-      let hi : op < 0xC0 = ltb-true op 0xC0 (and_right (leb 0x80 op) (ltb op 0xC0) d) in
+      let lo : 0x80 ≤ op = leb-true 0x80 op (and_parts (leb 0x80 op) (ltb op 0xC0) d).0 in
+      let hi : op < 0xC0 = ltb-true op 0xC0 (and_parts (leb 0x80 op) (ltb op 0xC0) d).1 in
       again_unless u xf (refusal_of (descriptor_of cp (op % 8))) _
       (again_whole u xf n 3 _ 0
       (λ l. record {
@@ -134,8 +134,8 @@ module _ (u xf : List ℕ) (o : Octets u) (size : length xf ≡ xf_count) (n : �
   of_xf : get_or u 0 0 ≡ 0x10 → Again u xf (look_xf u n)
   unfolding look_xf unwritable unaddressed past_end
   of_xf e =
-      cond_both (Again u xf) (ltb n 5) (λ _. tt)
-      (λ _. cond_both (Again u xf) (ltb xf_count (xf_address u + xf_words u)) (λ _. tt)
+      cond_both (ltb n 5) _ _ (Again u xf) (λ _. tt)
+      (λ _. cond_both (ltb xf_count (xf_address u + xf_words u)) _ _ (Again u xf) (λ _. tt)
       (λ p.
       let w : ℕ = xf_words u in
       let a : ℕ = xf_address u in
@@ -151,19 +151,19 @@ module _ (u xf : List ℕ) (o : Octets u) (size : length xf ≡ xf_count) (n : �
   of_opcode : (op : ℕ) → get_or u 0 0 ≡ op → Again u xf (by_opcode op u n cp)
   unfolding by_opcode head_of unwritable unaddressed past_end
   of_opcode op e =
-      cond_both (Again u xf) (eqb op 0x00) (λ t. plain 0x00 (e ∙ eqb-true op 0x00 t) refl refl refl refl refl)
-      (λ _. cond_both (Again u xf) (eqb op 0x48) (λ t. plain 0x48 (e ∙ eqb-true op 0x48 t) refl refl refl refl refl)
-      (λ _. cond_both (Again u xf) (eqb op 0x44) (λ t. plain 0x44 (e ∙ eqb-true op 0x44 t) refl refl refl refl refl)
-      (λ _. cond_both (Again u xf) (eqb op 0x08) (λ t. of_cp (e ∙ eqb-true op 0x08 t))
-      (λ _. cond_both (Again u xf) (eqb op 0x10) (λ t. of_xf (e ∙ eqb-true op 0x10 t))
-      (λ _. cond_both (Again u xf) (is_indexed op) (λ t. of_indexed op e t)
-      (λ _. cond_both (Again u xf) (eqb op 0x40) (λ t. of_call (e ∙ eqb-true op 0x40 t))
-      (λ _. cond_both (Again u xf) (eqb op 0x61) (λ t. of_bp (e ∙ eqb-true op 0x61 t))
-      (λ _. cond_both (Again u xf) (is_draw op) (λ t. of_head_lem op e t) (λ _. tt)))))))))
+      cond_both (eqb op 0x00) _ _ (Again u xf) (λ t. plain 0x00 (e ∙ eqb-true op 0x00 t) refl refl refl refl refl)
+      (λ _. cond_both (eqb op 0x48) _ _ (Again u xf) (λ t. plain 0x48 (e ∙ eqb-true op 0x48 t) refl refl refl refl refl)
+      (λ _. cond_both (eqb op 0x44) _ _ (Again u xf) (λ t. plain 0x44 (e ∙ eqb-true op 0x44 t) refl refl refl refl refl)
+      (λ _. cond_both (eqb op 0x08) _ _ (Again u xf) (λ t. of_cp (e ∙ eqb-true op 0x08 t))
+      (λ _. cond_both (eqb op 0x10) _ _ (Again u xf) (λ t. of_xf (e ∙ eqb-true op 0x10 t))
+      (λ _. cond_both (is_indexed op) _ _ (Again u xf) (λ t. of_indexed op e t)
+      (λ _. cond_both (eqb op 0x40) _ _ (Again u xf) (λ t. of_call (e ∙ eqb-true op 0x40 t))
+      (λ _. cond_both (eqb op 0x61) _ _ (Again u xf) (λ t. of_bp (e ∙ eqb-true op 0x61 t))
+      (λ _. cond_both (is_draw op) _ _ (Again u xf) (λ t. of_head_lem op e t) (λ _. tt)))))))))
 
   of_look : Again u xf (look_of u n cp Closed)
   unfolding look_of
-  of_look = cond_both (Again u xf) (eqb n 0) (λ _. tt) (λ _. of_opcode (get_or u 0 0) refl)
+  of_look = cond_both (eqb n 0) _ _ (Again u xf) (λ _. tt) (λ _. of_opcode (get_or u 0 0) refl)
 
 -- a unit read from a stream with no draw open, written again
 pub rewrites : (p xf cp : List ℕ) → Octets p → length xf ≡ xf_count → (c : List ℕ) (m l : ℕ) → look_of p (length p) cp Closed ≡ unit c m l

@@ -8,7 +8,7 @@ use lib.Dec.{leb, ltb, eqb}
 use lib.ListN.{length, take, length-append}
 use lib.Seq.{length-take-le}
 use borrow.Author.Tests.{not-false, eqb-true, leb-true, leb-false, ltb-true, ltb-false}
-use Rattle.laws.proofs.Cases.{and_left, and_right, or_left, or_right}
+use Rattle.std.proofs.lemmas.Bool.{and_parts, or_parts}
 use Rattle.octets.specs.BigEndian.{bytes_of}
 use Rattle.layout.specs.Answers.{refusal_of}
 use Rattle.command.specs.declared.Command.{Command}
@@ -39,30 +39,30 @@ module _ (words rest cp : List ℕ) where
   looks_back (LoadBp register n) t w a p d = bp_back rest cp register n (leb-false (2 ^ 24) n w)
   looks_back (DrawHead primitive format count) t w a p d =
       head_back rest cp primitive format count
-      (leb-false 8 primitive (or_left (leb 8 primitive) (leb 8 format) w))
-      (leb-false 8 format (or_right (leb 8 primitive) (leb 8 format) w)) t.1.1 (d refl)
+      (leb-false 8 primitive (or_parts (leb 8 primitive) (leb 8 format) w).0)
+      (leb-false 8 format (or_parts (leb 8 primitive) (leb 8 format) w).1) t.1.1 (d refl)
   looks_back (LoadIndexed array index w address) t u a p d =
       let all = not-false ((leb 12 array && leb array 15) && ((leb 1 w && leb w 16) && ltb address 4096)) u in
-      let r = and_left (leb 12 array && leb array 15) ((leb 1 w && leb w 16) && ltb address 4096) all in
-      let s = and_right (leb 12 array && leb array 15) ((leb 1 w && leb w 16) && ltb address 4096) all in
-      let m = and_left (leb 1 w && leb w 16) (ltb address 4096) s in
+      let r = (and_parts (leb 12 array && leb array 15) ((leb 1 w && leb w 16) && ltb address 4096) all).0 in
+      let s = (and_parts (leb 12 array && leb array 15) ((leb 1 w && leb w 16) && ltb address 4096) all).1 in
+      let m = (and_parts (leb 1 w && leb w 16) (ltb address 4096) s).0 in
       indexed_back rest cp array index w address
-      (leb-true 12 array (and_left (leb 12 array) (leb array 15) r)) (leb-true array 15 (and_right (leb 12 array) (leb array 15) r))
+      (leb-true 12 array (and_parts (leb 12 array) (leb array 15) r).0) (leb-true array 15 (and_parts (leb 12 array) (leb array 15) r).1)
       t.0.1
-      (leb-true 1 w (and_left (leb 1 w) (leb w 16) m)) (leb-true w 16 (and_right (leb 1 w) (leb w 16) m))
-      (ltb-true address 4096 (and_right (leb 1 w && leb w 16) (ltb address 4096) s))
+      (leb-true 1 w (and_parts (leb 1 w) (leb w 16) m).0) (leb-true w 16 (and_parts (leb 1 w) (leb w 16) m).1)
+      (ltb-true address 4096 (and_parts (leb 1 w && leb w 16) (ltb address 4096) s).1)
   looks_back (LoadXf w address) t u a p d =
       let all = not-false (leb 1 w && (leb w 16 && eqb w (length words))) u in
-      let m = and_right (leb 1 w) (leb w 16 && eqb w (length words)) all in
-      let same : w ≡ length words = eqb-true w (length words) (and_right (leb w 16) (eqb w (length words)) m) in
+      let m = (and_parts (leb 1 w) (leb w 16 && eqb w (length words)) all).1 in
+      let same : w ≡ length words = eqb-true w (length words) (and_parts (leb w 16) (eqb w (length words)) m).1 in
       let ws : List ℕ = word_bytes (take w words) in
       let k : length (take w words) ≡ w = length-take-le w words (omega arith) in
       let n : length ws ≡ 4 * w = length_words (take w words) ∙ ap (λ (x : ℕ). 4 * x) k in
       let size : 5 + 4 * w ≡ suc (suc (suc (suc (suc (length ws))))) = omega arith in
       let long : 4 * w ≤ length (ws ++ rest) = omega (arith, length-append ws rest) in
       xf_back (ws ++ rest) cp w address
-      (leb-true 1 w (and_left (leb 1 w) (leb w 16 && eqb w (length words)) all))
-      (leb-true w 16 (and_left (leb w 16) (eqb w (length words)) m))
+      (leb-true 1 w (and_parts (leb 1 w) (leb w 16 && eqb w (length words)) all).0)
+      (leb-true w 16 (and_parts (leb w 16) (eqb w (length words)) m).0)
       t.1 (ltb-false xf_count (address + w) p) long
       ∙ ap (λ (x : ℕ). unit (numbers_of (LoadXf w address)) 0 x) size
   looks_back Vertex t w a p d = absurd (false≢true (sym w))

@@ -1,3 +1,5 @@
+pub mod Bytes
+pub mod Beginnings
 pub mod Meanings
 pub mod Outcomes
 pub mod RoundTrip

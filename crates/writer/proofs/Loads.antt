@@ -8,7 +8,7 @@ use lib.Dec.{leb, eqb}
 use lib.ListN.{length, length-append}
 use lib.Seq.{take_all}
 use borrow.Author.Tests.{not-false, eqb-true, ltb-false, le-leb}
-use Rattle.laws.proofs.Cases.{and_right}
+use Rattle.std.proofs.lemmas.Bool.{and_parts}
 use Rattle.octets.specs.BigEndian.{bytes_of, WordsFit, words_at}
 use Rattle.command.specs.Command.{load_xf}
 use Rattle.command.specs.Look.{xf_count}
@@ -55,7 +55,7 @@ pub loads_back : (w address : ℕ) (words xf : List ℕ) → Writable (load_xf w
 unfolding unwritable past_end
 loads_back w a words xf t h size =
     let all = not-false (leb 1 w && (leb w 16 && eqb w (length words))) t.writable in
-    let m = and_right (leb 1 w) (leb w 16 && eqb w (length words)) all in
-    let many : w ≡ length words = eqb-true w (length words) (and_right (leb w 16) (eqb w (length words)) m) in
+    let m = (and_parts (leb 1 w) (leb w 16 && eqb w (length words)) all).1 in
+    let many : w ≡ length words = eqb-true w (length words) (and_parts (leb w 16) (eqb w (length words)) m).1 in
     let fits : a + w ≤ length xf = rw size (ltb-false xf_count (a + w) t.within) in
     ap (λ (x : List ℕ). held_words (load_xf w a) x xf) (bytes_are w a words xf many h fits) ∙ held_back w a words xf many h fits

@@ -1,13 +1,12 @@
 -- "The writer takes any single command but a vertex, its fields in the widths above, an XF load's words lent beside it, 1 to 16, .."
 -- A command is its list of numbers, kind and fields.
-use Rattle.std.specs.Prelude.{◌≡◌, cond, List, [], ◌∷◌, ◌++◌, ℕ, ◌+◌, ◌*◌, ◌%◌, ltb, eqb, length, take, drop}
+use Rattle.std.specs.Prelude.{◌≡◌, cond, List, [], ◌∷◌, ◌++◌, ℕ, ◌+◌, ◌*◌, ◌%◌, ltb, eqb, length, take, drop, Result}
 use Rattle.octets.specs.BigEndian.{bytes_of}
 unfoldable pub use Rattle.octets.specs.BigEndian.{word_bytes}
-use Rattle.refusal.specs.Number.{number}
+use Rattle.refusal.specs.Outcome.{answer_of}
 use Rattle.command.specs.Command.{kind_of, field_of}
 use Rattle.writable.specs.Writable.{unwritable, unaddressed, past_end}
-use Rattle.writer.specs.declared.Written.{Written}
-use Rattle.writer.specs.declared.Written.TheVariants.{Bytes, Refused}
+use Rattle.refusal.specs.declared.Reason.{Reason}
 
 -- ---- the bytes of a command
 
@@ -53,20 +52,12 @@ abbrev pub placed : List ℕ → List ℕ → List ℕ
 placed bytes out = bytes ++ drop (length bytes) out
 
 -- the numbers of an answer: 0 and the bytes written, or the refusal's
-abbrev pub meaning : Written → List ℕ
-meaning (Bytes n) = 0 ∷ n ∷ []
-meaning (Refused r) = number r ∷ []
+abbrev pub meaning : Result ℕ Reason → List ℕ
+meaning = answer_of (λ n. n ∷ [])
 
 -- what is written, or a refusal that writes nothing
-pub record Writes (c words out : List ℕ) (r : Written) (out' : List ℕ) : Type 0 where
+pub record Writes (c words out : List ℕ) (r : Result ℕ Reason) (out' : List ℕ) : Type 0 where
   pub answer_is :
       meaning r
       ≡ cond (eqb (refusal_of c words (length out)) 0) (0 ∷ length (command_bytes c words) ∷ []) (refusal_of c words (length out) ∷ [])
   pub out_is : out' ≡ cond (eqb (refusal_of c words (length out)) 0) (placed (command_bytes c words) out) out
-
--- ---- for the code's own functions
-
--- a head of `at` bytes copied to the front, then the first n words after it
-abbrev pub head_then_words : List ℕ → ℕ → List ℕ → ℕ → List ℕ → List ℕ
-head_then_words head at words n out =
-    take at (head ++ drop at out) ++ (word_bytes (take n words) ++ drop (at + 4 * n) (head ++ drop at out))

@@ -1,30 +1,26 @@
 // The bytes of a command before an XF load's words: at most nine.
-ghost use Rattle.std.specs.Prelude.{◌≡◌, ◌∷◌, ◌%◌, replicate};
+ghost use Rattle.std.specs.Prelude.{◌≡◌, ◌≤◌, take};
 ghost use Rattle.command.specs.Command.{numbers_of, load_cp, load_xf, load_indexed, call_list, load_bp, draw_head};
 ghost use Rattle.writer.specs.Heads.{Begins};
 
 use command::Command;
 
+// A buffer of its own, since a head stands somewhere before the room for it is known, and there is no heap.
 #[derive(Clone, Copy)]
 pub struct Front {
     pub bytes: [u8; 9],
     pub length: usize,
 }
 
-// A number's lowest byte.
-fn low(v: u32) -> u8
-    ensures { result ≡ v % 256 }
-{
-    (v % 256) as u8
-}
-
-// 00, 48, 44.
-fn plain(op: u8) -> Front
-    ensures { (result.bytes ≡ op ∷ replicate 8 0) × (result.length ≡ 1) }
-{
-    Front {
-        bytes: [op, 0, 0, 0, 0, 0, 0, 0, 0],
-        length: 1,
+impl Front {
+    // Some bytes, at most nine, at the front.
+    fn new<const N: usize>(head: [u8; N]) -> Front
+        requires { N ≤ 9 }
+        ensures { (take N result.bytes ≡ head.entry) × (result.length ≡ N) }
+    {
+        let mut bytes = [0u8; 9];
+        bytes[..N].copy_from_slice(&head);
+        Front { bytes, length: N }
     }
 }
 
@@ -32,90 +28,64 @@ fn plain(op: u8) -> Front
 fn head_cp(address: u8, number: u32) -> Front
     ensures { Begins (load_cp address number) result }
 {
-    let a = low(number / 256 / 256 / 256);
-    let b = low(number / 256 / 256);
-    let c = low(number / 256);
-    Front {
-        bytes: [0x08, address, a, b, c, low(number), 0, 0, 0],
-        length: 6,
-    }
+    let [a, b, c, d] = number.to_be_bytes();
+    Front::new([0x08, address, a, b, c, d])
 }
 
 // 10; the length is the words less one.
 fn head_xf(words: u8, address: u16) -> Front
     ensures { Begins (load_xf words address) result }
 {
-    let length = (words as u32 + 15) % 16;
-    let a = low(length / 256);
-    let b = low(address as u32 / 256);
-    Front {
-        bytes: [0x10, a, low(length), b, low(address as u32), 0, 0, 0, 0],
-        length: 5,
-    }
+    let length = (words as u16 + 15) % 16;
+    let [a, b] = length.to_be_bytes();
+    let [c, d] = address.to_be_bytes();
+    Front::new([0x10, a, b, c, d])
 }
 
 // 20, 28, 30, 38, by the array.
 fn head_indexed(array: u8, index: u16, words: u8, address: u16) -> Front
     ensures { Begins (load_indexed array index words address) result }
 {
-    let op = 0x20 + 8 * (array % 4);
-    let a = low(index as u32 / 256);
-    let rest = (words as u32 + 15) % 16 * 4096 + address as u32 % 4096;
-    let b = low(rest / 256);
-    Front {
-        bytes: [op, a, low(index as u32), b, low(rest), 0, 0, 0, 0],
-        length: 5,
-    }
+    let rest = (words as u16 + 15) % 16 * 4096 + address % 4096;
+    let [a, b] = index.to_be_bytes();
+    let [c, d] = rest.to_be_bytes();
+    Front::new([0x20 + 8 * (array % 4), a, b, c, d])
 }
 
 // 40.
 fn head_call(address: u32, size: u32) -> Front
     ensures { Begins (call_list address size) result }
 {
-    let a = low(address / 256 / 256 / 256);
-    let b = low(address / 256 / 256);
-    let c = low(address / 256);
-    let d = low(size / 256 / 256 / 256);
-    let e = low(size / 256 / 256);
-    let f = low(size / 256);
-    Front {
-        bytes: [0x40, a, b, c, low(address), d, e, f, low(size)],
-        length: 9,
-    }
+    let [a, b, c, d] = address.to_be_bytes();
+    let [e, f, g, h] = size.to_be_bytes();
+    Front::new([0x40, a, b, c, d, e, f, g, h])
 }
 
-// 61.
+// 61; the number's lowest three bytes.
 fn head_bp(register: u8, number: u32) -> Front
     ensures { Begins (load_bp register number) result }
 {
-    let a = low(number / 256 / 256);
-    let b = low(number / 256);
-    Front {
-        bytes: [0x61, register, a, b, low(number), 0, 0, 0, 0],
-        length: 5,
-    }
+    let [_, a, b, c] = number.to_be_bytes();
+    Front::new([0x61, register, a, b, c])
 }
 
 // 80 to BF.
 fn head_draw(primitive: u8, format: u8, count: u16) -> Front
     ensures { Begins (draw_head primitive format count) result }
 {
-    let op = 0x80 + 8 * (primitive % 8) + format % 8;
-    let a = low(count as u32 / 256);
-    Front {
-        bytes: [op, a, low(count as u32), 0, 0, 0, 0, 0, 0],
-        length: 3,
-    }
+    let [a, b] = count.to_be_bytes();
+    Front::new([0x80 + 8 * (primitive % 8) + format % 8, a, b])
 }
 
 // The head of a command; a vertex has none.
+// A match: the cases carry other fields, which no closure or table of functions could take alike.
 pub fn head(command: Command) -> Front
     ensures { Begins (numbers_of command) result }
 {
     match command {
-        Command::NoOperation => plain(0x00),
-        Command::InvalidateCache => plain(0x48),
-        Command::Metrics => plain(0x44),
+        Command::NoOperation => Front::new([0x00]),
+        Command::InvalidateCache => Front::new([0x48]),
+        Command::Metrics => Front::new([0x44]),
         Command::LoadCp { address, number } => head_cp(address, number),
         Command::LoadXf { words, address } => head_xf(words, address),
         Command::LoadIndexed {
@@ -131,9 +101,6 @@ pub fn head(command: Command) -> Front
             format,
             count,
         } => head_draw(primitive, format, count),
-        Command::Vertex => Front {
-            bytes: [0u8; 9],
-            length: 0,
-        },
+        Command::Vertex => Front::new([]),
     }
 }

@@ -3,60 +3,53 @@
 
 mod heads;
 
-ghost use Rattle.std.specs.Prelude.{◌≡◌, ◌+◌, ◌*◌, ◌≤◌, length, take};
+ghost use Rattle.std.specs.Prelude.{◌≡◌, ◌+◌, ◌*◌, ◌≤◌, ◌++◌, length};
 ghost use Rattle.command.specs.Command.{numbers_of};
-ghost use Rattle.writer.specs.Write.{words_of, head_then_words, Writes};
+ghost use Rattle.writer.specs.Write.{words_of, word_bytes, placed, Writes};
 
 use command::Command;
 use refusal::Reason;
-
-#[derive(Clone, Copy)]
-pub enum Written {
-    // So many bytes.
-    Bytes(u32),
-    Refused(Reason),
-}
 
 // The words that an XF load names; other commands name none.
 fn words_named(command: Command) -> usize
     ensures { (result ≡ words_of (numbers_of command)) × (result ≤ 255) }
 {
-    if let Command::LoadXf { words, address: _ } = command {
-        return words as usize;
+    match command {
+        Command::LoadXf { words, .. } => words as usize,
+        _ => 0,
     }
-    0
 }
 
-// The first bytes of a head, then the first n words.
-fn put(out: &mut [u8], bytes: [u8; 9], at: usize, words: &[u32], n: usize)
-    requires { (at ≤ 9) × ((n ≤ length words.now) × ((at + 4 * n ≤ length out.old) × (n ≤ 255))) }
-    ensures { out.new ≡ head_then_words (take at bytes) at words.now n out.old }
+// The bytes of a head, then words.
+fn put(out: &mut [u8], head: &[u8], words: &[u32])
+    requires { length head.now + 4 * length words.now ≤ length out.old }
+    ensures { out.new ≡ placed (head.now ++ word_bytes words.now) out.old }
 {
-    out[..at].copy_from_slice(&bytes[..at]);
-    octets::write_words(&words[..n], &mut out[at..]);
+    let at = head.len();
+    out[..at].copy_from_slice(head);
+    octets::write_words(words, &mut out[at..]);
 }
 
-// Writes one command to the front of the output, an XF load with its lent words.
-pub fn write(command: Command, words: &[u32], out: &mut [u8]) -> Written
+// Writes one command to the front of the output, an XF load with its lent words, and tells how many bytes it wrote.
+#[tactic(auto, unfolding(crate::specs::Write::refusal_of))]
+pub fn write(command: Command, words: &[u32], out: &mut [u8]) -> Result<u32, Reason>
     ensures { Writes (numbers_of command) words.now out.old result out.new }
 {
     if writable::unwritable(command, words.len()) {
-        return Written::Refused(Reason::UnwritableCommand);
+        return Err(Reason::UnwritableCommand);
     }
     if writable::unaddressed(command) {
-        return Written::Refused(Reason::UnknownCpAddress);
+        return Err(Reason::UnknownCpAddress);
     }
     if writable::past_end(command) {
-        return Written::Refused(Reason::XfLoadPastEnd);
+        return Err(Reason::XfLoadPastEnd);
     }
     let head = heads::head(command);
-    let bytes = head.bytes;
-    let at = head.length;
     let n = words_named(command);
-    let size = at + 4 * n;
+    let size = head.length + 4 * n;
     if out.len() < size {
-        return Written::Refused(Reason::OutputShort);
+        return Err(Reason::OutputShort);
     }
-    put(out, bytes, at, words, n);
-    Written::Bytes(size as u32)
+    put(out, &head.bytes[..head.length], &words[..n]);
+    Ok(size as u32)
 }

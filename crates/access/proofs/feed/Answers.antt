@@ -2,10 +2,8 @@
 use Rattle.access.proofs.Windows.{feeds_refused, feeds_done}
 use Rattle.access.proofs.feed.Goals as goal
 
-pub returns-in-Refused : goal.returns-in-Refused
-returns-in-Refused c =
-    feeds_refused _ c.window.ensures c.feed-changed.ensures _ c.in-Refused.is c.refused.ensures
+pub returns-in-Err : goal.returns-in-Err
+returns-in-Err c = feeds_refused _ c.bare-fifo.ensures c.feed.ensures _ c.in-Err.is c.from.ensures
 
 pub returns : goal.returns
-returns c =
-    feeds_done _ c.window.ensures c.feed-changed.ensures c.save_write.ensures c.in_default.is
+returns c = feeds_done _ c.bare-fifo.ensures c.feed.ensures c.save_write.ensures c.in_default.is

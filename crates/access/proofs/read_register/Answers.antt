@@ -5,11 +5,11 @@ use Rattle.access.proofs.read_register.Goals as goal
 pub returns-then-offset-eq-CONTROL : goal.returns-then-offset-eq-CONTROL
 returns-then-offset-eq-CONTROL c = reads_control _ _ c.if-offset-eq-CONTROL.true
 
-pub returns-in-Refused : goal.returns-in-Refused
-returns-in-Refused c =
-    reads_refused _ _ _ c.if-offset-eq-CONTROL.false c.window.ensures c.read_register-reading.ensures _ c.in-Refused.is
-    c.refused.ensures
+pub returns-in-Err : goal.returns-in-Err
+returns-in-Err c =
+    reads_refused _ _ _ c.if-offset-eq-CONTROL.false c.bare.ensures c.read_register.ensures _ c.in-Err.is c.from.ensures
 
-pub returns-in-Value : goal.returns-in-Value
-returns-in-Value c =
-    reads_done _ _ _ c.if-offset-eq-CONTROL.false c.window.ensures c.read_register-reading.ensures _ c.in-Value.is
+pub returns-in-Ok : goal.returns-in-Ok
+returns-in-Ok c =
+    rw c.from-in-Ok.ensures
+    (reads_done _ _ _ c.if-offset-eq-CONTROL.false c.bare.ensures c.read_register.ensures _ c.in-Ok.is)

@@ -1,17 +1,7 @@
--- `formats::decode` meets its contract: it decodes by the format that the words say.
-use mathlib.Core.Path.{sym, ap, ◌∙◌}
-use Rattle.layout.specs.declared.LayoutAnswer.{LayoutAnswer}
-use Rattle.layout.specs.Answers.{meaning}
-use Rattle.encoding.specs.Told.{first_of}
+-- It decodes by the format that the words say.
+use mathlib.Core.Path.{sym}
 use Rattle.formats.proofs.Lending.{one_told}
 use Rattle.formats.proofs.decode.Goals as goal
 
-pub returns-in-Refused : goal.returns-in-Refused
-returns-in-Refused c =
-    rw (sym c.descriptor.ensures)
-    (one_told c.decode_one-told.ensures (ap (λ (x : LayoutAnswer). first_of (meaning x)) c.in-Refused.is ∙ sym c.refused.ensures))
-
 pub returns : goal.returns
-returns c =
-    rw (sym c.descriptor.ensures)
-    (one_told c.decode_one-told.ensures (ap (λ (x : LayoutAnswer). first_of (meaning x)) c.in_default.is))
+returns c = rw (sym c.descriptor.ensures) (one_told c.decode_one.ensures c.answer_number.ensures)

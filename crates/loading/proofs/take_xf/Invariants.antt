@@ -1,12 +1,6 @@
 -- `loading::take_xf` meets its contract: each turn's load goes on where the last one ended.
-use mathlib.Core.Path.{◌≡◌}
-use Prim.Native.Nat.{◌-◌}
-use lib.ListN.{length}
 use Rattle.walk.specs.Moves.{MovesXf}
 use Rattle.loading.proofs.take_xf.Given as goal
 
 abbrev pub invariant-loop-units : goal.invariant-loop-units
-invariant-loop-units l = (length l.xf ≡ length l.initial.xf) × MovesXf l.bytes l.from l.initial.xf l.most l.units l.at l.xf
-
-abbrev pub decreases-loop-units : goal.decreases-loop-units
-decreases-loop-units l = l.most - l.units
+invariant-loop-units l = MovesXf l.bytes l.from l.initial.xf l.most l.units l.at l.xf

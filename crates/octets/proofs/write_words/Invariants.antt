@@ -1,12 +1,7 @@
 -- `octets::write_words` meets its contract: after i turns the first i words stand at the front.
 use mathlib.Core.Path.{◌≡◌}
-use Prim.Native.Nat.{◌-◌, ◌≤◌}
-use lib.ListN.{length}
 use Rattle.octets.proofs.Words.{state}
 use Rattle.octets.proofs.write_words.Given as goal
 
 abbrev pub invariant-loop-i : goal.invariant-loop-i
-invariant-loop-i l = (l.i ≤ length l.words) × ((length l.out ≡ length l.initial.out) × (l.out ≡ state l.initial.out l.words l.i))
-
-abbrev pub decreases-loop-i : goal.decreases-loop-i
-decreases-loop-i l = length l.words - l.i
+invariant-loop-i l = l.out ≡ state l.initial.out l.words l.i

@@ -3,6 +3,4 @@ use Rattle.recordwriter.proofs.Putting.{number_put}
 use Rattle.recordwriter.proofs.put_number.Goals as goal
 
 pub returns : goal.returns
-returns c =
-    let a = c.args in
-    number_put a.out.now _ a.at a.number c.requires c.write_words.ensures
+returns c = number_put _ _ _ _ c.requires c.write_words.ensures

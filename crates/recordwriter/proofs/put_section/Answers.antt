@@ -3,7 +3,4 @@ use Rattle.recordwriter.proofs.Putting.{section_put}
 use Rattle.recordwriter.proofs.put_section.Goals as goal
 
 pub returns : goal.returns
-returns c =
-    let a = c.args in
-    section_put a.out.now c.put_number.new.out _ a.numbers.now a.at c.requires.0 c.put_number.ensures
-    c.write_words.ensures
+returns c = section_put _ _ _ _ _ c.requires.0 c.put_number.ensures c.write_words.ensures

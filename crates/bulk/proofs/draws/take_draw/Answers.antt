@@ -1,19 +1,18 @@
 -- `bulk::take_draw` meets its contract: the head is a unit, and then each of its vertices that are taken.
-use mathlib.Core.Path.{refl}
 use mathlib.Core.List.{[]}
 use Prim.Native.Nat.{◌%◌}
 use native.Mathlib.Omega.{arith}
 use Rattle.command.proofs.Decided.{bytes_most}
-use Rattle.walk.proofs.Walks.{moves_none}
-use Rattle.bulk.proofs.Told.{told_closed, told_left}
+use Rattle.bulk.proofs.Told.{told_left}
+use Rattle.bulk.proofs.Classes.{closed_draw}
 use Rattle.bulk.proofs.Drawn.{head_moves}
 use Rattle.bulk.proofs.draws.take_draw.Goals as goal
 
 pub returns-then-bytes-at-lt3 : goal.returns-then-bytes-at-lt3
-returns-then-bytes-at-lt3 c = (record { any = λ _ _. moves_none; known = c.requires.1.1.1.1.1 }, told_closed refl)
+returns-then-bytes-at-lt3 c = closed_draw c.from-none.ensures c.requires.1.1.1.1.1
 
 pub returns-then-size-eq0 : goal.returns-then-size-eq0
-returns-then-size-eq0 c = (record { any = λ _ _. moves_none; known = c.size_of-size.ensures.known }, told_closed refl)
+returns-then-size-eq0 c = closed_draw c.from-none.ensures c.size_of-size.ensures.known
 
 pub take_vertices-some-requires : goal.take_vertices-some-requires
 take_vertices-some-requires c =

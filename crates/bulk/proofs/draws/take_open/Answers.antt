@@ -33,11 +33,11 @@ take_vertices-requires c =
       ),
     )
 
-pub returns-in-Closed : goal.returns-in-Closed
-returns-in-Closed c = (open_none c.requires, told_closed c.in-Closed.is)
+pub returns-in_default : goal.returns-in_default
+returns-in_default c = (open_none c.requires, told_closed c.in_default.is)
 
-pub returns-else-size-eq0 : goal.returns-else-size-eq0
-returns-else-size-eq0 c =
+pub returns : goal.returns
+returns c =
     let z = c.size_of-size.ensures in
     let v = c.take_vertices.ensures in
     rw c.in-Open.is

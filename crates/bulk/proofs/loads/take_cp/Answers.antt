@@ -6,22 +6,7 @@ use Rattle.bulk.proofs.Executed.{one_cp}
 use Rattle.bulk.proofs.loads.take_cp.Goals as goal
 
 pub loop-units-init : goal.loop-units-init
-loop-units-init c = (c.requires.0, (omega arith, record { any = λ _ _ _. moves_none; known = c.requires.1 }))
-
-pub returns-then-bytes-at-lt6 : goal.returns-then-bytes-at-lt6
-returns-then-bytes-at-lt6 c = c.loop-units.invariant.1.1
-
-pub returns-then-bytes-at-ne-CP : goal.returns-then-bytes-at-ne-CP
-returns-then-bytes-at-ne-CP c = c.loop-units.invariant.1.1
-
-pub execute_cp-requires : goal.execute_cp-requires
-execute_cp-requires c =
-    c.loop-units.invariant.1.1.known
-
-pub returns-then-not-execute_cp : goal.returns-then-not-execute_cp
-returns-then-not-execute_cp c =
-    let e = c.execute_cp.ensures.none (c.if-not-execute_cp.true) in
-    rw (e.0, e.1) c.loop-units.invariant.1.1
+loop-units-init c = (c.requires.0, record { any = λ _ _ _. moves_none; known = c.requires.1 })
 
 pub loop-units-preserved : goal.loop-units-preserved
 loop-units-preserved c =
@@ -30,17 +15,11 @@ loop-units-preserved c =
     let t = c.if-not-execute_cp.false in
     let e = c.execute_cp.ensures in (
       omega arith,
-      (
-        omega arith,
-        record {
-          any = λ bp xf buffer.
-              moves_next (l.invariant.1.1.any bp xf buffer) c.loop-units-test.true (omega arith)
-              (one_cp _ l.at c.if-bytes-at-lt6.false c.if-bytes-at-ne-CP.false (sym e.accepted_is ∙ t) w.result w.ensures
-              (e.loaded t).0 bp xf buffer);
-          known = (e.loaded t).1;
-        },
-      ),
+      record {
+        any = λ bp xf buffer.
+            moves_next (l.invariant.1.any bp xf buffer) c.loop-units-test.true (omega arith)
+            (one_cp _ l.at c.if-bytes-at-lt6.false c.if-bytes-at-ne-CP.false (sym e.accepted_is ∙ t) w.result w.ensures
+            (e.loaded t).0 bp xf buffer);
+        known = (e.loaded t).1;
+      },
     )
-
-pub returns : goal.returns
-returns c = c.loop-units.invariant.1.1

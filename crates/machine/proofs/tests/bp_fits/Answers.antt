@@ -1,21 +1,22 @@
 -- `machine::tests::bp_fits` meets its contract: all of them are joined.
-use mathlib.Core.Path.{◌≡◌, ap, ◌∙◌}
-use mathlib.Core.Bool.{Bool}
-use mathlib.Core.List.{List}
-use Prim.Native.Nat.{ℕ, ◌^◌, ◌≤◌}
-use native.Mathlib.Nat.{le_refl, le_of_eq}
-use lib.ListN.{length, take, drop}
-use lib.Seq.{take_all}
+use mathlib.Core.Path.{sym, ap, ◌∙◌}
+use Prim.Native.Nat.{◌^◌}
+use native.Mathlib.Omega.{arith}
+use native.Mathlib.Nat.{le_of_eq}
+use lib.ListN.{take}
+use lib.Seq.{take_all, length-take-le}
 use Rattle.machine.specs.Gate.{all_below, bp_fits}
+use Rattle.machine.proofs.Below.{joined_below}
 use Rattle.machine.proofs.tests.bp_fits.Goals as goal
 
--- as many as there are
-all : (bp : List ℕ) (n : ℕ) (b : Bool) → length bp ≤ n → b ≡ all_below (2 ^ 24) (take n (drop 0 bp)) → b ≡ bp_fits bp
-unfolding bp_fits
-all bp n b h e = e ∙ ap (all_below (2 ^ 24)) (take_all n bp h)
+pub slice_bounds-join-end : goal.slice_bounds-join-end
+slice_bounds-join-end c = sym (length-take-le 256 _ (omega arith))
 
 pub returns-then-bp-eq256 : goal.returns-then-bp-eq256
-returns-then-bp-eq256 c = all _ 256 _ (le_of_eq c.if-bp-eq256.true) (c.join.ensures.below 24)
+unfolding bp_fits
+returns-then-bp-eq256 c =
+    joined_below 24 (take 256 c.args.bp.now) c.join.ensures ∙ ap (all_below (2 ^ 24)) (take_all 256 _ (le_of_eq c.if-bp-eq256.true))
 
 pub returns : goal.returns
-returns c = all _ _ _ (le_refl _) (c.join-2.ensures.below 24)
+unfolding bp_fits
+returns c = joined_below 24 c.args.bp.now c.join-2.ensures

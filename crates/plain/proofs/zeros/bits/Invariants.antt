@@ -1,10 +1,8 @@
--- `plain::bits` meets its contract: after i turns the bits are those of the first i bytes.
-use Prim.Native.Nat.{◌-◌, ◌≤◌}
-use Rattle.plain.specs.Inner.{Quiet}
+-- `plain::bits` meets its contract: where the bits so far are none, each of the bytes so far is zero.
+use mathlib.Core.Path.{◌≡◌}
+use Prim.Native.Nat.{ℕ, ◌<◌}
+use lib.ListN.{get_or}
 use Rattle.plain.proofs.zeros.bits.Given as goal
 
-abbrev pub invariant-loop-i : goal.invariant-loop-i
-invariant-loop-i l = (l.i ≤ l.n) × Quiet l.bytes l.at l.i l.all
-
-abbrev pub decreases-loop-i : goal.decreases-loop-i
-decreases-loop-i l = l.n - l.i
+abbrev pub invariant-loop-byte : goal.invariant-loop-byte
+invariant-loop-byte l = l.all ≡ 0 → (k : ℕ) → k < l.byte-index → get_or l.block k 0 ≡ 0

@@ -1,26 +1,19 @@
 -- `running::units::take_next` meets its contract: it is `take_at`, but that nothing is looked at where the size of a vertex is known.
 use native.Mathlib.Omega.{arith}
-use Rattle.unit.proofs.Found.{takes_waiting}
+use Rattle.unit.proofs.Found.{takes_none}
 use Rattle.running.proofs.Unlooked.{known_most, waits_unlooked, vertex_unlooked}
 use Rattle.running.proofs.units.take_next.Goals as goal
 
 pub take_vertex-requires : goal.take_vertex-requires
-take_vertex-requires c =
-    let a = c.args in
-    let z = c.if-size-eq0.false in
-    known_most a.cp.now a.draw a.size _ _ _ c.requires c.in-Open.is (omega (arith, z))
+take_vertex-requires c = let a = c.args in known_most a.cp.now a.draw a.size c.requires (omega arith)
 
 pub returns-then-size-there : goal.returns-then-size-there
 returns-then-size-there c =
     let a = c.args in
-    let z = c.if-size-eq0.false in
-    let drawing = c.in-Open.is in
-    rw (← vertex_unlooked a.cursor a.ring.now a.cp.now a.draw a.size _ _ _ c.requires drawing (omega (arith, z))
-    c.if-size-there.true)
+    rw (← vertex_unlooked a.cursor a.ring.now a.cp.now a.draw a.size c.requires (omega arith) c.if-size-there.true)
     (c.take_vertex.ensures.any a.cp.now a.bp.now a.xf.now)
 
 pub returns : goal.returns
 returns c =
     let a = c.args in
-    let drawing = c.in-Open.is in
-    takes_waiting (waits_unlooked a.cursor a.ring.now a.cp.now a.draw a.size _ _ _ c.requires drawing c.if-size-there.false)
+    takes_none (waits_unlooked a.cursor a.ring.now a.cp.now a.draw a.size c.requires (omega arith) c.if-size-there.false) (λ d m l e. cc)

@@ -10,17 +10,15 @@ use Rattle.vertex.proofs.raw.gather.Goals as goal
 pub loop-i-init : goal.loop-i-init
 loop-i-init c =
     let a = c.args in
-    (omega arith, refl, fill_none (word_at a.vertex.now a.at a.n) (replicate 9 0))
+    (refl, fill_none (word_at a.vertex.now a.at a.n) (replicate 9 0))
 
 pub loop-i-preserved : goal.loop-i-preserved
 loop-i-preserved c =
     let lp = c.loop-i in
     let a = c.args in
-    let inside : lp.i < length lp.words = omega (arith, lp.invariant.1) in (
-      omega arith,
-      simp length-set lp.invariant.1,
-      fill_next (word_at a.vertex.now a.at a.n) lp.words lp.i
-          c.word_at.result inside lp.invariant.2 c.word_at.ensures,
+    let inside : lp.i < length lp.words = omega (arith, lp.invariant.0) in (
+      simp length-set lp.invariant.0,
+      fill_next (word_at a.vertex.now a.at a.n) lp.words lp.i c.word_at.result inside lp.invariant.1 c.word_at.ensures,
     )
 
 pub returns : goal.returns
@@ -28,4 +26,4 @@ unfolding words_of
 returns c =
     let lp = c.loop-i in
     let a = c.args in
-    fill_all (word_at a.vertex.now a.at a.n) lp.words 9 lp.i lp.invariant.1 (omega arith) lp.invariant.2
+    fill_all (word_at a.vertex.now a.at a.n) lp.words 9 lp.i lp.invariant.0 (omega arith) lp.invariant.1

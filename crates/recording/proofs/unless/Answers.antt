@@ -1,8 +1,0 @@
--- `recording::unless` meets its contract: by the test.
-use Rattle.recording.proofs.unless.Goals as goal
-
-pub returns-then-holds : goal.returns-then-holds
-returns-then-holds c = rw c.if-holds.true
-
-pub returns : goal.returns
-returns c = rw c.if-holds.false

@@ -1,6 +1,0 @@
--- `show::input::read_full`: there are never more bytes than the buffer holds.
-use Rattle.std.proofs.Common.{◌≤◌, length}
-use Rattle.show.proofs.input.read_full.Given as goal
-
-abbrev pub invariant-loop : goal.invariant-loop
-invariant-loop g l = l.count ≤ length l.buffer
