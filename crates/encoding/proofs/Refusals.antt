@@ -1,10 +1,11 @@
 -- What a refusal leaves: its number is not 0, so everything that was lent is what it was.
-use mathlib.Core.Path.{◌≡◌, refl, ap}
+use mathlib.Core.Path.{◌≡◌, refl, sym, ap, ◌∙◌}
 use mathlib.Core.Bool.{cond}
 use mathlib.Core.List.{List, [], ◌∷◌}
 use Prim.Native.Nat.{ℕ, zero, suc}
 use native.Mathlib.Omega.{arith}
 use lib.Dec.{eqb}
+use lib.ListN.{drop}
 use borrow.Author.Tests.{ne_eqb}
 use Rattle.refusal.specs.Number.{number}
 use Rattle.refusal.specs.declared.Reason.{Reason}
@@ -22,6 +23,12 @@ stays_number reason e new old = rw (not_zero reason e)
 pub first_is : (refusal : ℕ) (l : List ℕ) → first_of (cond (eqb refusal 0) (0 ∷ l) (refusal ∷ [])) ≡ refusal
 first_is zero l = refl
 first_is (suc n) l = rw (ne_eqb (suc n) 0 (λ e. omega (arith, e)))
+
+-- an answer that is 0 and what it tells
+pub accepted_is : (n : ℕ) (l : List ℕ) {m : List ℕ} → 0 ∷ m ≡ cond (eqb n 0) (0 ∷ l) (n ∷ []) → (n ≡ 0) × (m ≡ l)
+accepted_is n l e =
+    let z : n ≡ 0 = sym (ap first_of e ∙ first_is n l) in
+    (z, ap (λ (x : List ℕ). drop 1 x) (e ∙ ap (λ (x : ℕ). cond (eqb x 0) (0 ∷ l) (x ∷ [])) z))
 
 -- the number of an answer that is one number
 pub first_number : {m n : ℕ} → m ∷ [] ≡ n ∷ [] → m ≡ n

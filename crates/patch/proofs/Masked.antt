@@ -74,7 +74,7 @@ module _ (o m n m' n' : ℕ) (h : m < 2 ^ 24) (h' : m' < 2 ^ 24) where
   swap_back true false x y z e p q = cc
   swap_back false b x y z e p q = cc
 
-  -- two masked stores in either cases_lt leave the same, whatever the register held, exactly when they agree
+  -- two masked stores in either order leave the same, whatever the register held, exactly when they agree
   pub masked_swap : (masked (masked o m n) m' n' ≡ masked (masked o m' n') m n) ↔ AgreeAt m n m' n'
   masked_swap = (
     (λ e k l. swap_back (bit k m) (bit k m') (bit k n) (bit k n') (bit k o) (simp (masked_bit, l) at (ap (bit k) e))),

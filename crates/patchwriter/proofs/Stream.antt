@@ -81,7 +81,7 @@ unfolding commands_of_all
 patches_loads [] oks = tt
 patches_loads (p ∷ ps) oks = loads_append (commands_of p) (commands_of_all ps) (patch_loads p oks.0) (patches_loads ps oks.1)
 
--- "the sheets' bytes in cases_lt" are those of their commands, one after another
+-- "the sheets' bytes in order" are those of their commands, one after another
 pub patches_bytes : (ps : List Patch) → bytes_of_patches ps ≡ bytes_of_commands (commands_of_all ps)
 unfolding bytes_of_patches commands_of_all patch_bytes bytes_of_commands
 patches_bytes [] = refl

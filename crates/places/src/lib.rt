@@ -2,7 +2,7 @@
 #![tactic(auto)]
 
 ghost use Rattle.std.specs.Prelude.{◌≡◌};
-ghost use Rattle.places.specs.Places.{vcd_place, vat_place, base_place, stride_place, named_place, cp_accepted};
+ghost use Rattle.places.specs.Places.{vcd_place, vat_place, base_place, stride_place, cp_place, named_place, cp_accepted};
 
 // The CP registers, where the array bases and the strides begin among them, the BP registers, and the XF words.
 pub const COUNT: usize = 60;
@@ -42,24 +42,39 @@ pub fn stride_place(array: u8) -> usize
     STRIDES + array as usize
 }
 
-// The place of the register that a CP load's address names, none where it names none.
+// That place as a number, COUNT where the address names none. Bases, and strides right behind them, are tested first.
+// A number inside the crate: by a match that gives an Option, a load of a VAT takes a third longer, since the compiler then works the place
+// out twice, for the test and for the load.
 #[tactic(auto, unfolding(crate::specs::Places::cp_place))]
+fn place_or_count(address: u8) -> usize
+    ensures { result ≡ cp_place address }
+{
+    if 0xA0 <= address {
+        return if address < 0xC0 {
+            base_place(address - 0xA0)
+        } else {
+            COUNT
+        };
+    }
+    if address < 0x30 {
+        return COUNT;
+    }
+    if address < 0x70 {
+        return address as usize / 16 - 3;
+    }
+    if address % 16 < 8 {
+        vat_place(address % 16, address / 16 - 7)
+    } else {
+        COUNT
+    }
+}
+
+// The place of the register that a CP load's address names, none where it names none.
 pub fn cp_place(address: u8) -> Option<usize>
     ensures { result ≡ named_place address }
 {
-    // Bases, and strides right behind them, by tests of their own and before the others: by the match, and by `then_some`, CP loads take
-    // a quarter more instructions and more.
-    if 0xA0 <= address {
-        if 0xC0 <= address {
-            return None;
-        }
-        return Some(base_place(address - 0xA0));
-    }
-    match address {
-        0x30..=0x6F => Some(address as usize / 16 - 3),
-        0x70..=0x9F if address % 16 < 8 => Some(vat_place(address % 16, address / 16 - 7)),
-        _ => None,
-    }
+    let place = place_or_count(address);
+    if place < COUNT { Some(place) } else { None }
 }
 
 // Whether a CP load to the address is accepted; 20 is, without effect.

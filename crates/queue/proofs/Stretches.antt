@@ -6,9 +6,10 @@ use mathlib.Core.List.{List, ◌++◌, append_assoc}
 use native.Mathlib.Nat.{mod-eq_of_lt, le_of_eq}
 use native.Mathlib.Omega.{arith}
 use lib.ListN.{length, get_or, take, drop, length-append, length-drop, get_or-append, take-append-drop, drop_of_length-le}
-use lib.Seq.{length-take-le, take_all, drop-drop, get_or-take, get_or-drop, get_or-append-add}
+use lib.Seq.{length-take-le, take_all, take-length, drop-drop, get_or-take, get_or-drop, get_or-append-add}
 use borrow.Rule.Slice.PartMut.{put_mid}
 use Rattle.std.proofs.lemmas.Bool.{cases_lt}
+use Rattle.laws.proofs.Pieces.{lent_rest}
 use Rattle.laws.proofs.Remainder.{mod_two, mod_once}
 use Rattle.queue.specs.Feeding.{put, put_round}
 
@@ -124,6 +125,15 @@ module _ (ring : List ℕ) (at straight : ℕ) (bytes : List ℕ) (turn : at + s
       (cases_lt j (at + length (take straight bytes))))
       (cases_lt j at))
       (cases_lt j (length (drop straight bytes)))
+
+-- a part of the ring from a place to its end, given back with the bytes over its front
+pub put_lent : (ring : List ℕ) (at : ℕ) (bytes v : List ℕ)
+    → v ≡ take (length bytes) bytes ++ drop (length bytes) (take (length ring - at) (drop at ring))
+    → put_mid at (length ring - at) ring v ≡ put ring at bytes
+put_lent ring at bytes v e =
+    lent_rest ring bytes v at (e ∙ rw (take-length bytes)) ∙
+    ap (λ (x : List ℕ). take at ring ++ (bytes ++ x)) (drop-drop (length bytes) at ring) ∙
+    sym (append_assoc (take at ring) bytes (drop (at + length bytes) ring))
 
 -- a stretch of a ring, given back with the bytes in its place
 pub put_over : {A : Type 0} (ring : List A) (at : ℕ) (bytes v : List A) → v ≡ bytes

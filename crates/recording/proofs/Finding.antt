@@ -1,5 +1,5 @@
 -- The search for the first fault, number by number: its refusal and its place together.
-use mathlib.Core.Path.{◌≡◌, refl, ◌∙◌}
+use mathlib.Core.Path.{◌≡◌, refl, sym, ap, ◌∙◌}
 use mathlib.Core.Logic.{inl, inr}
 use mathlib.Core.List.{List, [], ◌∷◌}
 use Prim.Native.Nat.{ℕ, zero, suc, ◌+◌, ◌-◌, ◌*◌, ◌<◌, ◌≤◌}
@@ -13,16 +13,17 @@ use Rattle.refusal.specs.Number.{number}
 use Rattle.refusal.specs.declared.Reason.{Reason}
 use Rattle.refusal.proofs.Positive.{number_some, not_zero}
 use Rattle.refusal.proofs.First.{or_some, or_zero}
-use Rattle.recording.specs.Format.{number_count, stream_at, file_number}
-use Rattle.recording.specs.Faults.{number_fault, first_fault, first_place, head_fault, head_place}
+use Rattle.recording.specs.Format.{number_count, stream_at, file_number, xf_from, stream_count_at}
+use Rattle.std.specs.Prelude.{Option, None, Some}
+use Rattle.recording.specs.declared.Fault.{Fault}
+use Rattle.recording.specs.Answers.{meaning_of_fault}
+use Rattle.recording.specs.Searching.{found_from, SearchesPart}
+use Rattle.recording.proofs.Classes.{of_xf}
+use Rattle.recording.specs.Faults.{stream_limit, number_fault, first_fault, first_place, head_fault, head_place}
 use Rattle.recording.specs.Promises.{PlaceTold}
 
 module _ (limit : ℕ) (file : List ℕ) where
-  -- what is found from number k on
-  abbrev pub found_from : ℕ → List ℕ
-  found_from k = first_fault limit file (number_count - k) k ∷ first_place limit file (number_count - k) k ∷ []
-
-  pub found_first : head_fault limit file ∷ head_place limit file ∷ [] ≡ found_from 0
+  pub found_first : head_fault limit file ∷ head_place limit file ∷ [] ≡ found_from limit file 0
   unfolding head_fault head_place
   found_first = refl
 
@@ -31,12 +32,12 @@ module _ (limit : ℕ) (file : List ℕ) where
     left h = omega (arith, h)
 
     pub found_next : k < number_count → 4 * k + 4 ≤ length file → number_fault limit k (file_number file k) ≡ 0
-        → found_from k ≡ found_from (k + 1)
+        → found_from limit file k ≡ found_from limit file (k + 1)
     unfolding first_fault first_place
     found_next h w e = rw (left h, le-ltb (length file) (4 * k + 4) w, e, add-one k)
 
     pub found_here : k < number_count → 4 * k + 4 ≤ length file → (reason : Reason)
-        → number reason ≡ number_fault limit k (file_number file k) → found_from k ≡ number reason ∷ 4 * k ∷ []
+        → number reason ≡ number_fault limit k (file_number file k) → found_from limit file k ≡ number reason ∷ 4 * k ∷ []
     unfolding first_fault first_place
     found_here h w reason e =
         rw (
@@ -47,13 +48,43 @@ module _ (limit : ℕ) (file : List ℕ) where
           not_zero reason refl,
         )
 
-    pub found_cut : k < number_count → length file < 4 * k + 4 → found_from k ≡ 22 ∷ length file ∷ []
+    pub found_cut : k < number_count → length file < 4 * k + 4 → found_from limit file k ≡ 22 ∷ length file ∷ []
     unfolding first_fault first_place
     found_cut h w = rw (left h, lt-ltb (length file) (4 * k + 4) w)
 
-    pub found_none : k ≡ number_count → found_from k ≡ 0 ∷ stream_at ∷ []
+    pub found_none : k ≡ number_count → found_from limit file k ≡ 0 ∷ stream_at ∷ []
     unfolding first_fault first_place
     found_none e = rw e
+
+-- ---- the XF words
+
+module _ (limit : ℕ) (file : List ℕ) where
+  -- where they are all there the search goes on behind them
+  pub found_words : (n k : ℕ) → xf_from ≤ k → n + k ≡ stream_count_at → 4 * stream_count_at ≤ length file
+      → found_from limit file k ≡ found_from limit file stream_count_at
+  found_words zero k a e h = let same : k ≡ stream_count_at = omega arith in ap (found_from limit file) same
+  found_words (suc n) k a e h =
+      found_next limit file k (omega arith) (omega arith) (of_xf limit k (file_number file k) a (omega arith))
+      ∙ found_words n (k + 1) (omega arith) (omega arith) h
+
+  -- and else the file is cut among them
+  pub found_cut_word : (n k : ℕ) → xf_from ≤ k → n + k ≡ stream_count_at → 4 * k ≤ length file → length file < 4 * stream_count_at
+      → found_from limit file k ≡ 22 ∷ length file ∷ []
+  found_cut_word zero k a e l h = absurd (omega arith)
+  found_cut_word (suc n) k a e l h = elim (cases_lt (length file) (4 * k + 4)) [
+    | inl c ↦ found_cut limit file k (omega arith) c
+    | inr c ↦
+        found_next limit file k (omega arith) c (of_xf limit k (file_number file k) a (omega arith))
+        ∙ found_cut_word n (k + 1) (omega arith) (omega arith) (omega arith) h
+  ]
+
+-- ---- the last part
+
+-- what a search to the end of the numbers gives is what is found
+pub part_told : (file : List ℕ) (k : ℕ) (r : Option Fault) → SearchesPart file k number_count r
+    → meaning_of_fault r ≡ found_from stream_limit file k
+part_told file k None h = sym (h.0 ∙ found_none stream_limit file number_count refl)
+part_told file k (Some fault) h = h
 
 -- ---- the place of the first fault
 

@@ -2,8 +2,10 @@
 // `recordwriter` read and write it.
 #![tactic(auto)]
 
-ghost use Rattle.std.specs.Prelude.{◌≡◌, cond, [], ◌∷◌};
+ghost use Rattle.std.specs.Prelude.{◌≡◌, ◌*◌, ◌≤◌, cond, [], ◌∷◌, length};
 ghost use Rattle.refusal.specs.Number.{number};
+ghost use Rattle.recording.specs.Format.{number_count};
+ghost use Rattle.recording.specs.Searching.{SearchesPart};
 ghost use Rattle.recording.specs.Faults.{stream_limit, number_fault, head_fault, head_place, rest_fault};
 ghost use Rattle.recording.specs.Answers.{meaning_of_verdict, meaning_of_fault};
 
@@ -75,12 +77,14 @@ fn fault_of(k: u32, value: u32) -> Result<(), Reason>
     }
 }
 
-// Searches the numbers of a file in their order; the search ends at the first fault.
-pub fn search(file: &[u8]) -> Option<Fault>
-    ensures { meaning_of_fault result
-        ≡ head_fault stream_limit file.now ∷ head_place stream_limit file.now ∷ [] }
+// Searches the numbers from one on and before another in their order; the search ends at the first fault.
+fn search_part(file: &[u8], from: u32, to: u32) -> Option<Fault>
+    requires ordered { from ≤ to }
+    requires inside { to ≤ number_count }
+    requires whole { 4 * from ≤ length file.now }
+    ensures { SearchesPart file.now from to result }
 {
-    for k in 0..NUMBERS {
+    for k in from..to {
         let place = 4 * k;
         if file.len() < place as usize + 4 {
             return Some(Fault {
@@ -93,6 +97,24 @@ pub fn search(file: &[u8]) -> Option<Fault>
         }
     }
     None
+}
+
+// Searches the numbers of a file in their order, for the first fault. An XF word is never at fault where it is there, so that of the XF
+// words only their number of bytes is looked at.
+pub fn search(file: &[u8]) -> Option<Fault>
+    ensures { meaning_of_fault result
+        ≡ head_fault stream_limit file.now ∷ head_place stream_limit file.now ∷ [] }
+{
+    if let Some(fault) = search_part(file, 0, XF_COUNT_AT + 1) {
+        return Some(fault);
+    }
+    if file.len() < 4 * STREAM_COUNT_AT as usize {
+        return Some(Fault {
+            place: file.len() as u32,
+            reason: Reason::FileShort,
+        });
+    }
+    search_part(file, STREAM_COUNT_AT, NUMBERS)
 }
 
 // Whether so many bytes behind the numbers are the stream that its count tells.

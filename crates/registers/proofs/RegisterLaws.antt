@@ -54,7 +54,7 @@ writable_place o e l =
     let w : WordOffset o = writable_word o e l in
     (w.place, λ p. false≢true (sym (writable_stored o e) ∙ w.counted p))
 
--- a rule that is cases_Bool where it counts holds where it counts
+-- a rule that is tested where it counts holds where it counts
 pub checked : (t u : Bool) → (t && not u) ≡ false → t ≡ true → u ≡ true
 checked true u e h = not-false u e
 checked false u e h = absurd (false≢true h)

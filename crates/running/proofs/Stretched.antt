@@ -125,11 +125,11 @@ module _ (ring : List ℕ) (o : Octets ring) (f : Fifo) (k : ℕ) (s : Core) whe
 
 -- a run goes on after them
 module _ (ring : List ℕ) (o : Octets ring) {limit : ℕ} {s : State} {cursor : Cursor} {cp bp : List ℕ} {draw : Draw} {xf buffer : List ℕ}
-    {units : ℕ} {cursor' : Cursor} {draw' : Draw} {n : ℕ} {cp' bp' xf' buffer' : List ℕ} where
+    {units most : ℕ} {cursor' : Cursor} {draw' : Draw} {n : ℕ} {cp' bp' xf' buffer' : List ℕ} where
   pub course_stretch : Course ring limit s cursor cp bp draw xf buffer units
-      → TakesStretch cursor ring cp bp draw xf buffer (limit - units) cursor' draw' n cp' bp' xf' buffer'
+      → TakesStretch cursor ring cp bp draw xf buffer most cursor' draw' n cp' bp' xf' buffer' → units + most ≤ limit
       → Course ring limit s cursor' cp' bp' draw' xf' buffer' (units + n)
-  course_stretch at t =
+  course_stretch at t h =
       let f : Fifo = s.fifo in
       let k : ℕ = at.consumed in
       let here : Fifo = consume f k in
@@ -139,8 +139,8 @@ module _ (ring : List ℕ) (o : Octets ring) {limit : ℕ} {s : State} {cursor :
       let fits : t.lent ≤ count_of here.window = omega (arith, t.there) in
       let b : bytes_at cursor ring t.lent ≡ take t.lent queue =
       ap (λ (x : Cursor). bytes_at x ring t.lent) at.cursor_is ∙ r.bytes_are t.lent fits in
-      let m : TakesMany (take t.lent queue) (core_of cp bp draw xf buffer) (limit - units) n t.used (core_of cp' bp' draw' xf' buffer') =
-      rw b at t.taken in
+      let m : TakesMany (take t.lent queue) (core_of cp bp draw xf buffer) most n t.used (core_of cp' bp' draw' xf' buffer') = rw b at
+      t.taken in
       let w = walk_ahead ring o f k (core_of cp bp draw xf buffer) at.passes (take t.lent queue) (drop t.lent queue)
       (sym (take-append-drop t.lent queue)) n t.used (core_of cp' bp' draw' xf' buffer') m.walk in
       let used : t.used ≤ count_of here.window = omega (
@@ -149,7 +149,7 @@ module _ (ring : List ℕ) (o : Octets ring) {limit : ℕ} {s : State} {cursor :
         length-take-le t.lent queue
             (omega (arith, length_pending here.window ring)),
       ) in
-      course_ahead at n (k + t.used) (omega (arith, m.within, at.within))
+      course_ahead at n (k + t.used) (omega (arith, m.within))
       (t.moved ∙ ap (λ (x : Cursor). skipped x t.used) at.cursor_is ∙ r.skip_is t.used used
       ∙ ap opened (consume_consume f k t.used))
       w.ahead

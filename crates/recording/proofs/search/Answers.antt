@@ -1,34 +1,30 @@
--- `recording::search` meets its contract: the search from a number on is the whole search as long as nothing was found.
-use mathlib.Core.Path.{◌≡◌, sym, ap, ◌∙◌}
+-- `recording::search` meets its contract: behind the CP registers nothing but the stream's count can be at fault, as far as the file goes.
+use mathlib.Core.Path.{◌≡◌, sym, ◌∙◌}
+use Prim.Native.Nat.{ℕ, ◌-◌}
 use native.Mathlib.Omega.{arith}
-use Rattle.refusal.specs.Number.{number}
-use Rattle.recording.specs.Format.{file_number}
-use Rattle.recording.specs.Faults.{stream_limit, number_fault}
-use Rattle.recording.proofs.Finding.{found_first, found_next, found_here, found_cut, found_none}
+use Rattle.recording.specs.Format.{xf_from, stream_count_at}
+use Rattle.recording.specs.Faults.{stream_limit}
+use Rattle.recording.proofs.Finding.{found_first, found_words, found_cut_word, part_told}
 use Rattle.recording.proofs.search.Goals as goal
 
-pub loop-k-preserved : goal.loop-k-preserved
-loop-k-preserved c =
-    let file = c.args.file.now in
-    let sound : number_fault stream_limit c.loop-k.k (file_number file c.loop-k.k) ≡ 0 =
-    ap (number_fault stream_limit c.loop-k.k) (sym c.word_at.ensures) ∙ sym c.in_default.ensures in
-    c.loop-k.invariant ∙ found_next stream_limit file c.loop-k.k c.loop-k-test.true c.if-file-place.false sound
+-- the XF words
+abbrev words : ℕ
+words = stream_count_at - xf_from
 
-pub returns-then-file-place : goal.returns-then-file-place
-returns-then-file-place c =
-    let file = c.args.file.now in
-    sym (found_first stream_limit file ∙ c.loop-k.invariant
-    ∙ found_cut stream_limit file c.loop-k.k c.loop-k-test.true c.if-file-place.true)
+pub returns-in-Some : goal.returns-in-Some
+returns-in-Some c = c.in-Some.ensures ∙ sym (found_first stream_limit c.args.file.now)
 
-pub returns-in-Err : goal.returns-in-Err
-returns-in-Err c =
+pub returns-then-file : goal.returns-then-file
+returns-then-file c =
     let file = c.args.file.now in
-    let is : number c.in-Err.reason ≡ number_fault stream_limit c.loop-k.k (file_number file c.loop-k.k) =
-    c.in-Err.ensures ∙ ap (number_fault stream_limit c.loop-k.k) c.word_at.ensures in
-    sym (found_first stream_limit file ∙ c.loop-k.invariant
-    ∙ found_here stream_limit file c.loop-k.k c.loop-k-test.true c.if-file-place.false c.in-Err.reason is)
+    let part = c.in_default.ensures in
+    sym (found_first stream_limit file ∙ part.0
+    ∙ found_cut_word stream_limit file words xf_from (omega arith) (omega arith) part.1 c.if-file.true)
 
 pub returns : goal.returns
 returns c =
     let file = c.args.file.now in
-    sym (found_first stream_limit file ∙ c.loop-k.invariant ∙ found_none stream_limit file c.loop-k.k (omega arith))
+    let part = c.in_default.ensures in
+    part_told file stream_count_at _ c.search_part-2.ensures
+    ∙ sym (found_first stream_limit file ∙ part.0
+    ∙ found_words stream_limit file words xf_from (omega arith) (omega arith) c.if-file.false)

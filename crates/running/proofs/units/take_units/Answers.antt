@@ -22,7 +22,8 @@ overflow_add-units c =
 pub returns-then-limit-units : goal.returns-then-limit-units
 returns-then-limit-units c =
     course_ends c.requires
-    (course_stretch _ (λ k. (c.type_inv.ring k).fits) c.loop-units.invariant c.take_stretch-ahead.ensures.0)
+    (course_stretch _ (λ k. (c.type_inv.ring k).fits) c.loop-units.invariant c.take_stretch-ahead.ensures.0
+    (omega (arith, c.loop-units.invariant.within)))
     c.if-limit-units.true c.close.ensures
 
 pub take_next-moved-requires : goal.take_next-moved-requires
@@ -30,7 +31,8 @@ take_next-moved-requires c = c.take_stretch-ahead.ensures.1
 
 pub returns-in_default : goal.returns-in_default
 returns-in_default c =
-    let gone = course_stretch _ (λ k. (c.type_inv.ring k).fits) c.loop-units.invariant c.take_stretch-ahead.ensures.0 in
+    let gone = course_stretch _ (λ k. (c.type_inv.ring k).fits) c.loop-units.invariant c.take_stretch-ahead.ensures.0
+    (omega (arith, c.loop-units.invariant.within)) in
     course_stops _ (λ k. (c.type_inv.ring k).fits) gone c.if-limit-units.false (takes_course gone c.take_next-moved.ensures)
     (not_unit _ c.in_default.not-Done) c.stop_for.ensures c.close-in_default.ensures c.requires
 
@@ -42,6 +44,7 @@ loop-units-smaller c = omega (arith, c.take_stretch-ahead.ensures.0.taken.within
 
 pub loop-units-preserved : goal.loop-units-preserved
 loop-units-preserved c =
-    let gone = course_stretch _ (λ k. (c.type_inv.ring k).fits) c.loop-units.invariant c.take_stretch-ahead.ensures.0 in
+    let gone = course_stretch _ (λ k. (c.type_inv.ring k).fits) c.loop-units.invariant c.take_stretch-ahead.ensures.0
+    (omega (arith, c.loop-units.invariant.within)) in
     course_goes _ (λ k. (c.type_inv.ring k).fits) gone c.if-limit-units.false (takes_course gone c.take_next-moved.ensures)
     _ _ _ (ap meaning c.in-Done.is)

@@ -1,10 +1,10 @@
 -- `writer::heads::head_indexed` meets its contract: its bytes are the definition's, byte by byte.
+use mathlib.Core.Path.{refl}
 use lib.Dec.{lit≤}
 use Rattle.octets.specs.BigEndian.{bytes_of}
 use Rattle.writer.specs.Write.{head_of}
-use Rattle.writer.proofs.Beginnings.{begins}
 use Rattle.writer.proofs.heads.head_indexed.Goals as goal
 
 pub returns : goal.returns
 unfolding head_of bytes_of
-returns c = begins _ _ _ (lit≤ tt) (rw (c.to_be_bytes.ensures, c.to_be_bytes-2.ensures)) c.new.ensures
+returns c = record { bytes_are = rw (c.to_be_bytes.ensures, c.to_be_bytes-2.ensures) refl; length_is = refl; most = lit≤ tt }
