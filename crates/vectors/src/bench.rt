@@ -3,7 +3,7 @@
 use crate::ring;
 use command::{Draw, LARGEST_VERTEX, StepAnswer};
 use fifo::{Fifo, Window};
-use machine::Registers;
+use machine::{Machine, Registers};
 use places::XF_LENGTH;
 use running::Ran;
 use std::fmt;
@@ -30,20 +30,28 @@ pub fn fifo_to(end: u32, read: u32, write: u32) -> Fifo {
 }
 
 impl Bench {
-    // A fresh bench that may be read from, to whose ring these bytes were fed from a place on.
-    pub fn fed(at: u32, bytes: &[u8]) -> Bench {
-        let fresh = machine::fresh();
-        let mut fifo = fifo_to(0x1100, at, at);
-        fifo.control = 1;
-        let mut ring = [0u8; 256];
-        let _ = queue::feed(&mut fifo, &mut ring, bytes);
+    // A bench that is handed nothing yet.
+    pub fn fresh() -> Bench {
+        let Machine { fifo, registers } = machine::fresh();
         Bench {
             fifo,
-            registers: fresh.registers,
-            ring,
+            registers,
+            ring: [0; 256],
             xf: [0; XF_LENGTH],
             vertex: [0; LARGEST_VERTEX],
         }
+    }
+
+    // Makes it fresh again and such that it may be read from, and feeds these bytes to its ring from a place on.
+    // In place: a fresh bench that is handed back takes as much of the stack again.
+    pub fn feed(&mut self, at: u32, bytes: &[u8]) {
+        self.fifo = fifo_to(0x1100, at, at);
+        self.fifo.control = 1;
+        self.registers = machine::fresh().registers;
+        self.ring.fill(0);
+        self.xf.fill(0);
+        self.vertex.fill(0);
+        let _ = queue::feed(&mut self.fifo, &mut self.ring, bytes);
     }
 
     // Takes the next unit.

@@ -9,20 +9,22 @@ mod ring;
 mod taken;
 mod units;
 
+use bench::Bench;
 use std::io;
 
 fn main(rt: HostRuntime) -> io::Result<()> {
+    let mut bench = Bench::fresh();
     ring::starred_count(&rt)?;
     ring::filled(&rt)?;
-    taken::xf_loads(&rt)?;
-    taken::indexed_load(&rt)?;
-    taken::bp_loads(&rt)?;
-    taken::draws(&rt)?;
+    taken::xf_loads(&rt, &mut bench)?;
+    taken::indexed_load(&rt, &mut bench)?;
+    taken::bp_loads(&rt, &mut bench)?;
+    taken::draws(&rt, &mut bench)?;
     patches::written(&rt)?;
     normals::fractions(&rt)?;
     normals::others(&rt)?;
-    units::metrics(&rt)?;
-    units::waiting(&rt)?;
-    units::stopping(&rt)?;
+    units::metrics(&rt, &mut bench)?;
+    units::waiting(&rt, &mut bench)?;
+    units::stopping(&rt, &mut bench)?;
     ring::mebibyte(&rt)
 }

@@ -1,7 +1,6 @@
 // Normals: document 02's fixed fractions, by the bits of a component.
 use fields::Descriptor;
 use std::io;
-use std::num::f32_to_bits_with_nan;
 use vertex::Attribute;
 
 // The number of a normal among the attributes of a vertex.
@@ -22,9 +21,15 @@ fn descriptor(vat0: u32) -> Descriptor {
 // number.
 fn component(vat0: u32, vertex: &[u8]) -> u32 {
     match vertex::decode(descriptor(vat0), NORMAL, vertex) {
-        Ok(Attribute::Normal(normal)) => f32_to_bits_with_nan(normal.x),
-        Ok(Attribute::Frame(_, _, last)) => f32_to_bits_with_nan(last.z),
-        Ok(_) => 0,
+        Ok(normal) => {
+            // Its kind, and then its components.
+            let words = encoding::attribute_words(normal);
+            if matches!(normal, Attribute::Frame(_, _, _)) {
+                words[9]
+            } else {
+                words[1]
+            }
+        }
         Err(reason) => u32::from(reason),
     }
 }

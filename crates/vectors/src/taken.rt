@@ -4,12 +4,12 @@ use command::{Command, StepAnswer};
 use std::io;
 
 // Feeds the bytes 16 bytes before the ring's end, and takes units, as many as stand in front of the last one, and then that.
-fn take(bytes: &[u8], before: u32) -> (StepAnswer, Bench) {
-    let mut bench = Bench::fed(0x10F0, bytes);
+fn take(bench: &mut Bench, bytes: &[u8], before: u32) -> StepAnswer {
+    bench.feed(0x10F0, bytes);
     for _ in 0..before {
         bench.take();
     }
-    (bench.take(), bench)
+    bench.take()
 }
 
 // 0 where the unit was done, 255 where it waits, or the number of its refusal.
@@ -41,8 +41,9 @@ fn memory(answer: StepAnswer) -> u32 {
 }
 
 // "10 00 F3 10 00 takes 4 words; address 1057 takes one word, two give 8."
-pub fn xf_loads(rt: &impl Print) -> io::Result<()> {
-    let (answer, bench) = take(
+pub fn xf_loads(rt: &impl Print, bench: &mut Bench) -> io::Result<()> {
+    let answer = take(
+        bench,
         &[
             0x10, 0x00, 0xF3, 0x10, 0x00, 0, 0, 0, 0x11, 0, 0, 0, 0x22, 0, 0, 0, 0x33, 0, 0, 0,
             0x44,
@@ -51,17 +52,18 @@ pub fn xf_loads(rt: &impl Print) -> io::Result<()> {
     );
     println!(rt; "words of 10 00 F3 10 00: {}", words(answer))?;
     println!(rt; "after it: {bench}")?;
-    let (answer, bench) = take(&[0x10, 0x00, 0x00, 0x10, 0x57, 0, 0, 0, 0x55], 0);
+    let answer = take(bench, &[0x10, 0x00, 0x00, 0x10, 0x57, 0, 0, 0, 0x55], 0);
     println!(rt; "words of 10 00 00 10 57: {}", words(answer))?;
     println!(rt; "after it: {bench}")?;
-    let (answer, bench) = take(&[0x10, 0x00, 0x01, 0x10, 0x57], 0);
+    let answer = take(bench, &[0x10, 0x00, 0x01, 0x10, 0x57], 0);
     println!(rt; "refusal of 10 00 01 10 57: {}", number(answer))?;
     println!(rt; "after it: {bench}")
 }
 
 // "20 00 03 B0 00 with base 1000, stride 40 (hex) reports 10C0, 12 words."
-pub fn indexed_load(rt: &impl Print) -> io::Result<()> {
-    let (answer, bench) = take(
+pub fn indexed_load(rt: &impl Print, bench: &mut Bench) -> io::Result<()> {
+    let answer = take(
+        bench,
         &[
             0x08, 0xAC, 0, 0, 0x10, 0x00, 0x08, 0xBC, 0, 0, 0, 0x40, 0x20, 0x00, 0x03, 0xB0, 0x00,
         ],
@@ -76,14 +78,15 @@ pub fn indexed_load(rt: &impl Print) -> io::Result<()> {
 }
 
 // "FE loads 0000F0 then 00003C from FFFFFF: 000030"; "register 123450, mask 00000F, number 0000A5: 123455".
-pub fn bp_loads(rt: &impl Print) -> io::Result<()> {
-    let (answer, bench) = take(&[0x61, 0xFE, 0, 0, 0xF0, 0x61, 0xFE, 0, 0, 0x3C], 1);
+pub fn bp_loads(rt: &impl Print, bench: &mut Bench) -> io::Result<()> {
+    let answer = take(bench, &[0x61, 0xFE, 0, 0, 0xF0, 0x61, 0xFE, 0, 0, 0x3C], 1);
     println!(rt;
         "answer to 61 FE 00 00 F0 61 FE 00 00 3C: {}",
         number(answer)
     )?;
     println!(rt; "after it: {bench}")?;
-    let (answer, bench) = take(
+    let answer = take(
+        bench,
         &[
             0x61, 0x41, 0x12, 0x34, 0x50, 0x61, 0xFE, 0, 0, 0x0F, 0x61, 0x41, 0, 0, 0xA5,
         ],
@@ -97,15 +100,15 @@ pub fn bp_loads(rt: &impl Print) -> io::Result<()> {
 }
 
 // "90 00 00, position present, leaves no draw open": the position is of two bytes. A head of one vertex, and then its vertex.
-pub fn draws(rt: &impl Print) -> io::Result<()> {
-    let (answer, bench) = take(&[0x08, 0x50, 0, 0, 0x02, 0, 0x90, 0x00, 0x00], 1);
+pub fn draws(rt: &impl Print, bench: &mut Bench) -> io::Result<()> {
+    let answer = take(bench, &[0x08, 0x50, 0, 0, 0x02, 0, 0x90, 0x00, 0x00], 1);
     println!(rt; "answer to 90 00 00: {}", number(answer))?;
     println!(rt; "after it: {bench}")?;
     let vertex = [0x08, 0x50, 0, 0, 0x02, 0, 0x90, 0x00, 0x01, 7, 8];
-    let (answer, bench) = take(&vertex, 1);
+    let answer = take(bench, &vertex, 1);
     println!(rt; "answer to 90 00 01: {}", number(answer))?;
     println!(rt; "after it: {bench}")?;
-    let (answer, bench) = take(&vertex, 2);
+    let answer = take(bench, &vertex, 2);
     println!(rt; "answer to its vertex: {}", number(answer))?;
     println!(rt; "after it: {bench}")
 }
