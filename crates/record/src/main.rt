@@ -17,6 +17,7 @@ mod start;
 
 use failure::Failure;
 use pass::Again;
+use recording::HEAD_LENGTH;
 use start::Start;
 use std::io::{Read, Seek};
 use std::rt::{Env, Files};
@@ -62,7 +63,10 @@ fn write_recording<I: Read + Seek>(
     start: &Start,
     count: usize,
 ) -> Result<(), Failure> {
-    let head = start.head(count)?;
+    let mut head = [0u8; HEAD_LENGTH];
+    start
+        .write_head(count, &mut head)
+        .map_err(Failure::Refused)?;
     pass::copy(rt, again, &head, count)
 }
 
@@ -80,11 +84,14 @@ fn record(rt: &(impl Files + AllocGlobal + Input + Print), start: &Start) -> Res
 }
 
 // Records it with the registers and XF words of another recording, which is read to its end and closed before.
-fn record_by_other(rt: &(impl Files + AllocGlobal + Input + Print)) -> Result<(), Failure> {
+fn record_by_other(
+    rt: &(impl Files + AllocGlobal + Input + Print),
+    start: &mut Start,
+) -> Result<(), Failure> {
     let mut other = input::open_other(rt).ok_or(Failure::Unreadable)?;
-    let start = Start::read(rt.alloc(), &mut other)?;
+    start.read(rt.alloc(), &mut other)?;
     drop(other);
-    record(rt, &start)
+    record(rt, start)
 }
 
 // Writes the bytes behind the head of a recording, which were counted, where they are as many as it tells.
@@ -94,13 +101,16 @@ fn write_rest<I: Read + Seek>(
     told: u32,
     rest: usize,
 ) -> Result<(), Failure> {
-    start::check_rest(told, rest)?;
+    start::check_rest(told, rest).map_err(Failure::Bad)?;
     pass::copy(rt, again, &[], rest)
 }
 
 // Writes the stream of the recording on standard input.
-fn write_stream(rt: &(impl Files + AllocGlobal + Input + Print)) -> Result<(), Failure> {
-    let (_, told) = Start::read_head(rt.alloc(), &mut rt.reader())?;
+fn write_stream(
+    rt: &(impl Files + AllocGlobal + Input + Print),
+    start: &mut Start,
+) -> Result<(), Failure> {
+    let told = start.read_head(rt.alloc(), &mut rt.reader())?;
     if let Some(mut again) = input::open_stdin(rt) {
         let rest = pass::count(&mut rt.reader(), told as usize)?;
         return write_rest(rt, &mut again, told, rest);
@@ -110,10 +120,13 @@ fn write_stream(rt: &(impl Files + AllocGlobal + Input + Print)) -> Result<(), F
 }
 
 fn run(rt: &(impl Files + Env + AllocGlobal + Input + Print)) -> Result<(), Failure> {
-    match Task::read(rt)? {
-        Task::RecordFresh => record(rt, &Start::fresh()),
-        Task::RecordByOther => record_by_other(rt),
-        Task::WriteStream => write_stream(rt),
+    let task = Task::read(rt)?;
+    // Made here once, and lent: it and a head are as large as all else on the stack.
+    let mut start = Start::fresh();
+    match task {
+        Task::RecordFresh => record(rt, &start),
+        Task::RecordByOther => record_by_other(rt, &mut start),
+        Task::WriteStream => write_stream(rt, &mut start),
     }
 }
 
