@@ -1,6 +1,5 @@
 // The BP registers that do not hold what they hold in the fresh state, eight to a line.
-use std::io::Write;
-use std::{fmt, io};
+use std::fmt;
 
 const LINE_LENGTH: usize = 8;
 
@@ -25,23 +24,15 @@ impl fmt::Display for Line<'_> {
     }
 }
 
-pub fn tell(out: &mut impl Write, bp: &[u32; 256]) -> io::Result<()> {
-    let fresh = machine::fresh().registers.bp;
+// Tells them line by line; each is tried, whether or not those before it could be written.
+pub fn tell(rt: &impl Print, bp: &[u32; 256]) {
+    let fresh = &machine::fresh().registers.bp;
     let count = bp
         .iter()
-        .zip(&fresh)
+        .zip(fresh)
         .filter(|(number, fresh)| number != fresh)
         .count();
     for skipped in (0..count).step_by(LINE_LENGTH) {
-        writeln!(
-            out,
-            "{}",
-            Line {
-                bp,
-                fresh: &fresh,
-                skipped
-            }
-        )?;
+        let _ = println!(rt; "{}", Line { bp, fresh, skipped });
     }
-    Ok(())
 }

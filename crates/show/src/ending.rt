@@ -4,13 +4,15 @@ use recording::{Fault, HEAD_LENGTH};
 use refusal::Reason;
 use std::fmt;
 
-// All was read; bytes are lacking for the next unit; a unit is refused, or a recording is bad, at this byte; a read failed.
+// All was read; bytes are lacking for the next unit; a unit is refused, or a recording is bad, at this byte; a unit's line could not be
+// written, while bytes were left or a draw was open behind it, at this byte; a read failed.
 #[derive(Clone, Copy)]
 pub enum Ending {
     Whole,
     Waiting(u32),
     Refused { reason: Reason, byte: u64 },
     BadFile(Fault),
+    Unwritten { byte: u64 },
     Unreadable,
 }
 
@@ -39,6 +41,8 @@ impl fmt::Display for Ending {
                 write!(f, "end: refusal {number} at byte {byte}: {reason}")
             }
             Ending::BadFile(fault) => write!(f, "end: {fault}"),
+            // The unit was done, so that the number is 0, that of no refusal. It is seen only where an output takes lines again.
+            Ending::Unwritten { byte } => write!(f, "end: refusal 0 at byte {byte}"),
             Ending::Unreadable => write!(f, "end: the input cannot be read"),
         }
     }
