@@ -1,5 +1,6 @@
 // The stream: fed to the bench in pieces, of what length the input gives them, and taken unit by unit, each of which is told.
-ghost use Rattle.std.specs.Prelude.{◌≤◌};
+ghost use Rattle.std.specs.Prelude.{◌≡◌};
+ghost use Rattle.show.specs.Stream.{left_of};
 
 use crate::bench::{Bench, RING_LENGTH};
 use crate::count::Count;
@@ -105,7 +106,7 @@ impl<'a, P: Print> Stream<'a, P> {
 
     // How many bytes the stream still has, of so many that were read.
     fn left(&self, read: usize) -> usize
-        ensures { result ≤ read }
+        ensures { result ≡ left_of self.now.told self.now.seen read }
     {
         match self.told {
             Some(told) => read.min(u64::from(told).saturating_sub(self.seen) as usize),
