@@ -8,6 +8,7 @@ ghost use Rattle.command.specs.Command.{numbers_of};
 ghost use Rattle.writer.specs.Write.{words_of, word_bytes, placed, Writes};
 
 use command::Command;
+use heads::Front;
 use refusal::Reason;
 
 // The words that an XF load names; other commands name none.
@@ -44,12 +45,13 @@ pub fn write(command: Command, words: &[u32], out: &mut [u8]) -> Result<u32, Rea
     if writable::past_end(command) {
         return Err(Reason::XfLoadPastEnd);
     }
-    let head = heads::head(command);
+    // The two parts by themselves: a front that is kept whole is copied once more.
+    let Front { bytes, length } = heads::head(command);
     let n = words_named(command);
-    let size = head.length + 4 * n;
+    let size = length + 4 * n;
     if out.len() < size {
         return Err(Reason::OutputShort);
     }
-    put(out, &head.bytes[..head.length], &words[..n]);
+    put(out, &bytes[..length], &words[..n]);
     Ok(size as u32)
 }

@@ -8,7 +8,7 @@ use Rattle.writer.proofs.write.Goals as goal
 pub returns-then-out-size : goal.returns-then-out-size
 returns-then-out-size c =
     by_room _ _ _ (sym c.if-unwritable.ensures) (sym c.if-unaddressed.ensures) (sym c.if-past_end.ensures)
-    (omega (arith, c.head-head.ensures.length_is, c.words_named-n.ensures.0))
+    (omega (arith, c.head-length.ensures.length_is, c.words_named-n.ensures.0))
 
 pub slice_bounds-put-end-2 : goal.slice_bounds-put-end-2
 slice_bounds-put-end-2 c =
@@ -17,4 +17,4 @@ slice_bounds-put-end-2 c =
 pub returns : goal.returns
 returns c =
     by_writing _ _ _ (sym c.if-unwritable.ensures) (sym c.if-unaddressed.ensures) (sym c.if-past_end.ensures) _ _ _ _
-    c.head-head.ensures.length_is c.head-head.ensures.bytes_are c.words_named-n.ensures.0 c.if-out-size.false c.put.ensures
+    c.head-length.ensures.length_is c.head-length.ensures.bytes_are c.words_named-n.ensures.0 c.if-out-size.false c.put.ensures
