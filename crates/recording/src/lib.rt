@@ -60,14 +60,14 @@ fn unless(holds: bool, reason: Reason) -> Result<(), Reason>
 }
 
 // The fault of a number by its place: a wrong count, or a number too wide for its register. The other CP registers and the XF words have
-// all 32 bits.
+// all 32 bits. The BP registers, which are the most of those that can have one, stand first: so they are tested first too.
 #[tactic(auto, unfolding(crate::specs::Faults::number_fault))]
 fn fault_of(k: u32, value: u32) -> Result<(), Reason>
     ensures { meaning_of_verdict result ≡ number_fault stream_limit k value }
 {
     match k {
-        0 => unless(value == places::BP_COUNT as u32, Reason::WrongCount),
         1..CP_COUNT_AT => unless(value < 0x100_0000, Reason::NumberTooWide),
+        0 => unless(value == places::BP_COUNT as u32, Reason::WrongCount),
         CP_COUNT_AT => unless(value == places::COUNT as u32, Reason::WrongCount),
         BASES_FROM..STRIDES_FROM => unless(value < 0x400_0000, Reason::NumberTooWide),
         STRIDES_FROM..XF_COUNT_AT => unless(value < 256, Reason::NumberTooWide),
