@@ -26,6 +26,7 @@ fn descriptor(cp: &[u32; 60], format: u8) -> Descriptor
 }
 
 // 80 to BF. The opcode decides 9 and 10.
+#[tactic(auto, using(command::proofs::Refusals::unless_refused_lem), unfolding(command::specs::Look::look_head))]
 fn look_head(op: u8, b: [u8; 9], count: u32, cp: &[u32; 60]) -> StepAnswer
     ensures { meaning result ≡ look_head op b count cp.now }
 {

@@ -1,9 +1,10 @@
 -- Each arm is the integer or the pattern that the format says, and which single it is gives all that is promised: `decoded`.
-use mathlib.Core.Path.{◌∙◌}
+use mathlib.Core.Path.{◌≡◌, ◌∙◌}
 use Prim.Native.Nat.{◌%◌}
 use native.Mathlib.Omega.{arith}
 use lib.Dec.{lit<}
-use mir.Syntax.{w8, w16, w32}
+use mir.Syntax.{w16, w32}
+use mir.Val.{to_z, of_z}
 use mir.ValLaws.{to_z_pos}
 use borrow.Author.Rules.{rules}
 use Rattle.component.proofs.Complement.{signed8, signed16, widened, size_lt}
@@ -18,15 +19,15 @@ returns-in-0 c =
 pub quotient-requires-in-1 : goal.quotient-requires-in-1
 quotient-requires-in-1 c =
     let z = c.cast_signed.result in
-    rw (widened w8 z c.from.result (search rules) (search rules) c.from.ensures) (omega (arith, size_lt z w8 (search rules)))
+    let e : to_z w32 (of_z w32 c.from.result) ≡ z = search rules in
+    rw e (omega (arith, size_lt z w16 (search rules)))
 
 pub returns-in-1 : goal.returns-in-1
 returns-in-1 c =
     let a = c.args in
     let z = c.cast_signed in
-    of_integer a.format a.raw a.shift 1 c.in-1.is (lit< tt)
-    (rw (widened w8 z.result c.from.result (search rules) (search rules) c.from.ensures ∙ z.ensures ∙ signed8 (a.raw % 256))
-    at c.quotient-in-1.ensures)
+    let e : to_z w32 (of_z w32 c.from.result) ≡ z.result = search rules in
+    of_integer a.format a.raw a.shift 1 c.in-1.is (lit< tt) (rw (e ∙ z.ensures ∙ signed8 (a.raw % 256)) at c.quotient-in-1.ensures)
 
 pub returns-in-2 : goal.returns-in-2
 returns-in-2 c =

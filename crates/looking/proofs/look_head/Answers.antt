@@ -1,14 +1,10 @@
 -- `looking::look_head` meets its contract:
 -- the measure's answer is the definition's refusal, and the count stands big-endian after the opcode.
 use mathlib.Core.Path.{◌∙◌}
-use Rattle.command.proofs.Refusals.{unless_refused_lem, unless_accepted}
+use Rattle.command.proofs.Refusals.{unless_accepted}
 use Rattle.command.specs.Look.{look_head}
 use Rattle.octets.proofs.Number.{two_bytes}
 use Rattle.looking.proofs.look_head.Goals as goal
-
-pub returns-in-Err : goal.returns-in-Err
-unfolding look_head
-returns-in-Err c = rw (← c.descriptor.ensures) (unless_refused_lem c.in-Err.reason _ _ c.in-Err.ensures.answer_is)
 
 pub returns : goal.returns
 unfolding look_head

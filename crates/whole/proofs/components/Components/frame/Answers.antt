@@ -1,11 +1,12 @@
 -- After i turns the kind and the components below i stand.
-use mathlib.Core.Path.{refl, ◌∙◌}
+use mathlib.Core.Path.{refl, ap, ◌∙◌}
 use Prim.Native.Nat.{ℕ, ◌+◌, ◌<◌}
 use native.Mathlib.Omega.{arith}
 use lib.ListN.{length, length-set}
 use Rattle.laws.specs.Values.{up_to}
 use Rattle.laws.proofs.Filled.{fill_next, fill_all}
 use Rattle.component.specs.Component.{width_of}
+use Rattle.vertex.specs.Attributes.{bits_of}
 use Rattle.whole.proofs.Tens.{framed, framed_at, room_for}
 use Rattle.whole.proofs.components.Components.frame.Goals as goal
 
@@ -16,7 +17,7 @@ loop-i-init c = (refl, refl)
 pub bits-requires : goal.bits-requires
 bits-requires c =
     let s = c.args.self.now in
-    room_for s.at (c.loop-i.i + 1) 9 (width_of s.format) _ (omega arith) c.requires
+    room_for s.at _ 9 (width_of s.format) _ (omega arith) c.requires
 
 pub loop-i-preserved : goal.loop-i-preserved
 loop-i-preserved c =
@@ -26,7 +27,8 @@ loop-i-preserved c =
     let inside : lp.i + 1 < length lp.frame = omega (arith, lp.invariant.0) in (
       simp length-set lp.invariant.0,
       fill_next f lp.frame (lp.i + 1) c.bits.result inside lp.invariant.1
-          (c.bits.ensures ∙ framed_at s.vertex.now s.at s.format s.fraction lp.i),
+          (c.bits.ensures ∙ ap (bits_of s.vertex.now s.at s.format s.fraction) (omega arith)
+          ∙ framed_at s.vertex.now s.at s.format s.fraction lp.i),
     )
 
 pub returns : goal.returns
