@@ -1,8 +1,9 @@
 -- Each arm is the integer or the pattern that the format says, and which single it is gives all that is promised: `decoded`.
-use mathlib.Core.Path.{◌≡◌, ◌∙◌}
+use mathlib.Core.Path.{◌≡◌, ap, ◌∙◌}
 use Prim.Native.Nat.{◌%◌}
 use native.Mathlib.Omega.{arith}
 use lib.Dec.{lit<}
+use lib.Ieee.{binary32, of_bits}
 use mir.Syntax.{w16, w32}
 use mir.Val.{to_z, of_z}
 use mir.ValLaws.{to_z_pos}
@@ -50,4 +51,5 @@ returns-in-3 c =
 pub returns-in_default : goal.returns-in_default
 returns-in_default c =
     let a = c.args in
-    of_single a.format a.raw a.shift (omega arith) (omega arith) c.f32_from_bits_with_nan.ensures
+    of_single a.format a.raw a.shift (omega arith) (omega arith)
+    (c.f32_from_bits_with_nan.ensures ∙ ap (of_bits binary32) (omega arith))
