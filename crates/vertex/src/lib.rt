@@ -178,6 +178,7 @@ fn decode_at(descriptor: Descriptor, k: usize, vertex: &[u8], at: u8) -> Attribu
 }
 
 // Where attribute k starts, or the reason why it is refused: 9, 10, then 19.
+#[tactic(auto, using(crate::proofs::Refusals::layout_refused))]
 fn locate(descriptor: Descriptor, k: usize, vertex: &[u8]) -> Result<u8, Reason>
     ensures { located result ≡ location_of descriptor k vertex.now }
 {
