@@ -37,6 +37,7 @@ impl Weights {
     }
 
     // Whether the layout is refused: by 9, then 10.
+    #[tactic(auto, using(crate::proofs::Meanings::refused_absent, crate::proofs::Meanings::refused_unknown, crate::proofs::Meanings::accepted), unfolding(fields::specs::Fields::mode_of, fields::specs::Fields::bits_at, fields::specs::Fields::modes))]
     pub fn check(&self) -> Result<(), Reason>
         ensures { meaning result ≡ refusal_of self.now.d ∷ [] }
     {
