@@ -60,7 +60,7 @@ fn unless(holds: bool, reason: Reason) -> Result<(), Reason>
 }
 
 // The fault of a number by its place: a wrong count, or a number too wide for its register. The other CP registers and the XF words have
-// all 32 bits. The BP registers, which are the most of those that can have one, stand first: so they are tested first too.
+// all 32 bits. The arm of the BP registers stands first, since most of the numbers that can have a fault are theirs.
 #[tactic(auto, unfolding(crate::specs::Faults::number_fault))]
 fn fault_of(k: u32, value: u32) -> Result<(), Reason>
     ensures { meaning_of_verdict result ≡ number_fault stream_limit k value }

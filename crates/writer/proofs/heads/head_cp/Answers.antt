@@ -8,4 +8,8 @@ use Rattle.writer.proofs.heads.head_cp.Goals as goal
 
 pub returns : goal.returns
 unfolding head_of bytes_of
-returns c = record { bytes_are = rw (c.to_be_bytes.ensures, third_byte c.args.number, second_byte c.args.number) refl; length_is = refl; most = lit≤ tt }
+returns c = record {
+  bytes_are = rw (c.to_be_bytes.ensures, third_byte c.args.number, second_byte c.args.number) refl;
+  length_is = refl;
+  most = lit≤ tt;
+}
